@@ -1,5 +1,5 @@
 -- Rounds of sealing, posting, looking and erasing, until nothing is retired.
-use Rattle.std.proofs.Common.{◌≡◌, ◌≢◌, ◌⊎◌, inl, inr, ⊎_elim, ℕ, ◌+◌, ◌==◌, Bool, true, false, cond, true≢false, List, [], ◌∷◌, ◌++◌, filter, Some, None, Result, Ok, Err, refl, sym, ap, ◌∙◌, subst, arith, append-nil}
+use Rattle.std.proofs.Common.{◌≡◌, ◌≢◌, ◌⊎◌, inl, inr, ⊎_elim, ℕ, suc, ◌+◌, ◌==◌, Bool, true, false, cond, true≢false, List, [], ◌∷◌, ◌++◌, filter, Some, None, Result, Ok, Err, refl, sym, ap, ◌∙◌, subst, arith, append-nil}
 use Rattle.std.specs.Prelude.{if◌then◌else◌, find, is_some, map, nat_le, not, nat_eq, option_to_list}
 use Rattle.std.specs.List.{list_any}
 use Rattle.std.proofs.lemmas.Bool.Decides.{leb_tells}
@@ -17,7 +17,7 @@ use Rattle.fine_hall.specs.Halls.{IsAhead}
 use Rattle.hall_rooms.specs.Rooms.{RoomPass}
 use Rattle.hall_rooms.specs.Steps.{IsCleanTurn, ShowsOr}
 use Rattle.hall_rooms.specs.Turning.{SealedAndPosted}
-use Rattle.hall_rooms.specs.Making.{AllAhead, ClearsOr, ErasesAndLooks, IsCleared, RoundOr, SealsAll, Stops}
+use Rattle.hall_rooms.specs.Making.{AllAhead, ClearsOr, EndRounds, ErasesAndLooks, IsCleared, RoundOr, SealsAll, Stops, StopsRound}
 use Rattle.hall_rooms.proofs.Erased.{job_kept, may_settle}
 use Rattle.hall_rooms.proofs.Turned.{some_failed}
 
@@ -76,25 +76,35 @@ SoFar old new = (new ≡ old) ⊎ SealsAll old.room new.room
 pub so_far_then : (old mid new : RoomValue) → SoFar old mid → SealsAll mid.room new.room → SealsAll old.room new.room
 so_far_then old mid new so_far s = ⊎_elim (λ is. subst (λ (v : RoomValue). SealsAll v.room new.room) is s) (λ was. seals_then old.room mid.room new.room was s) so_far
 
-pub stops_then : (old mid new : RoomValue) → SoFar old mid → (fault : RoomFault) → Stops mid new fault → Stops old new fault
-stops_then old mid new (inl is) fault s = subst (λ v. Stops v new fault) is s
-stops_then old mid new (inr was) room_fault.Disk s = (was.opened, s.1)
-stops_then old mid new (inr was) (room_fault.Shut epoch) s = absurd (true≢false (sym s.0 ∙ was.not_shut))
-stops_then old mid new (inr was) room_fault.NoMemory s = s
+-- the room was open before
+was_open : (old mid : RoomValue) → SoFar old mid → mid.room.is_shut ≡ false → old.room.is_shut ≡ false
+was_open old mid so_far is_open = ⊎_elim (λ is. sym (ap (λ (v : RoomValue). v.room.is_shut) is) ∙ is_open) (λ was. was.opened) so_far
+
+-- a room that was shut is as it was
+shut_then : (seats : ℕ) (old mid new : RoomValue) → SoFar old mid → (epoch : ℕ) → StopsRound seats mid new (room_fault.Shut epoch) → Stops seats old new (room_fault.Shut epoch)
+shut_then seats old mid new (inl is) epoch s = subst (λ v. Stops seats v new (room_fault.Shut epoch)) is s
+shut_then seats old mid new (inr was) epoch s = absurd (true≢false (sym s.0 ∙ was.not_shut))
+
+-- behind some rounds one stopped
+module _ (seats : ℕ) (old mid new : RoomValue) (so_far : SoFar old mid) (rounds : ℕ) (ended : EndRounds seats rounds old mid) where
+  pub stops_then : (fault : RoomFault) → StopsRound seats mid new fault → Stops seats old new fault
+  stops_then room_fault.Disk s = (was_open old mid so_far s.0, s.1, record { rounds = rounds; before = mid; ended = ended; stops = s })
+  stops_then (room_fault.Shut epoch) s = shut_then seats old mid new so_far epoch s
+  stops_then room_fault.NoMemory s = (s.0, record { rounds = rounds; before = mid; ended = ended; stops = s })
 
 -- ---- one round
 
 module _ (x : Beginning) (old mid new : RoomValue) (others : List RoomPass) where
   -- showing came to no end
   pub show_fails : (p' : RoomPass) (fault : RoomFault) → ShowsOr x old new p' (Err fault) → RoundOr x old new p' others (Err fault)
-  show_fails p' room_fault.Disk s = (s.0, (s.1, s.2))
+  show_fails p' room_fault.Disk s = (s.0, (s.1, s.2, ⊎_elim (λ lost. inl lost) (λ stopped. inr (inl stopped)) s.3))
   show_fails p' (room_fault.Shut epoch) s = (s.0, (s.1, s.2, s.3))
-  show_fails p' room_fault.NoMemory s = (s.0, s.1)
+  show_fails p' room_fault.NoMemory s = (s.0, (s.1, ⊎_elim (λ still. inl still) (λ stopped. inr (inl stopped)) s.2))
 
-  module _ (p' : RoomPass) (seats : ℕ) (not_shut : mid.room.is_shut ≡ false) (posted : SealedAndPosted old.room mid.room seats) (c : IsCleanTurn x mid p') where
+  module _ (p' : RoomPass) (not_shut : mid.room.is_shut ≡ false) (posted : SealedAndPosted old.room mid.room x.seats) (c : IsCleanTurn x mid p') where
     -- and erasing
     pub round_goes : IsAhead state_of x p' → AllAhead x others → (r : Result Bool RoomFault) → ErasesAndLooks mid new r → RoundOr x old new p' others r
-    round_goes ahead all (Ok done) (erased, e, none) = (
+    round_goes ahead all (Ok done) (erased, e, looks) = (
       record { note = c.note; turn = may_settle x mid new p' c (Ok erased) e; none_failed = let n = c.none_failed in let f = e.5 in omega (arith, n, f) },
       record {
         opened = posted.opened;
@@ -106,16 +116,17 @@ module _ (x : Beginning) (old mid new : RoomValue) (others : List RoomPass) wher
       },
       ahead,
       all,
-      none,
+      record { shown = mid.room; posts = posted; erased = erased; erases = e.4 },
+      looks,
     )
-    round_goes ahead all (Err room_fault.Disk) e = (record { note = c.note; turn = may_settle x mid new p' c (Err room_fault.Disk) e; some_failed = some_failed x p' mid new c.note c.turn e.4 }, (posted.opened, e.3))
+    round_goes ahead all (Err room_fault.Disk) e = (record { note = c.note; turn = may_settle x mid new p' c (Err room_fault.Disk) e; some_failed = some_failed x p' mid new c.note c.turn e.4 }, (posted.opened, e.3, inr (inr (mid.room, posted, e.5))))
     round_goes ahead all (Err (room_fault.Shut epoch)) e = absurd (true≢false (sym e.0 ∙ not_shut))
     round_goes ahead all (Err room_fault.NoMemory) e =
-        (record { note = c.note; turn = may_settle x mid new p' c (Err room_fault.NoMemory) e; none_failed = let n = c.none_failed in let f = e.3 in omega (arith, n, f) }, e.2)
+        (record { note = c.note; turn = may_settle x mid new p' c (Err room_fault.NoMemory) e; none_failed = let n = c.none_failed in let f = e.3 in omega (arith, n, f) }, (e.2, inr (inr (mid.room, posted, e.4))))
 
 -- erasing keeps the merge that is out
 pub looks_job : (old new : RoomValue) (r : Result Bool RoomFault) → ErasesAndLooks old new r → KeepsJob old.room new.room
-looks_job old new (Ok done) (erased, e, none) = job_kept old new (Ok erased) e
+looks_job old new (Ok done) (erased, e, looks) = job_kept old new (Ok erased) e
 looks_job old new (Err fault) e = job_kept old new (Err fault) e
 
 pub job_stays : (a b : RoomState) → KeepsJob a b → a.job ≡ None → b.job ≡ None
@@ -127,10 +138,13 @@ module _ (x : Beginning) (old mid new : RoomValue) (so_far : SoFar old mid) (p' 
   pub cleared : RoundOr x mid new p' others (Ok true) → IsWhole new → new.room.job ≡ None → ClearsOr x old new p' others (Ok tt)
   cleared r whole none =
       let seals = so_far_then old mid new so_far r.1 in
-      (r.0, record { seals = seals; cleared = is_cleared new whole seals.not_shut seals.none_waits (r.4 refl) none }, r.2, r.3)
+      (r.0, record { seals = seals; cleared = is_cleared new whole seals.not_shut seals.none_waits (r.5.0 refl) none }, r.2, r.3)
 
-  pub round_fails : (fault : RoomFault) → RoundOr x mid new p' others (Err fault) → ClearsOr x old new p' others (Err fault)
-  round_fails fault r = (r.0, stops_then old mid new so_far fault r.1)
+  pub round_fails : (rounds : ℕ) → EndRounds x.seats rounds old mid → (fault : RoomFault) → RoundOr x mid new p' others (Err fault) → ClearsOr x old new p' others (Err fault)
+  round_fails rounds ended fault r = (r.0, stops_then x.seats old mid new so_far rounds ended fault r.1)
 
   pub round_more : RoundOr x mid new p' others (Ok false) → SoFar old new
   round_more r = inr (so_far_then old mid new so_far r.1)
+
+  pub rounds_more : (rounds : ℕ) → EndRounds x.seats rounds old mid → RoundOr x mid new p' others (Ok false) → EndRounds x.seats (suc rounds) old new
+  rounds_more rounds ended r = (mid, ended, r.4, r.5.1 refl)

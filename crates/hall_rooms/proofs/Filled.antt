@@ -78,5 +78,5 @@ pub stuck_then : StuckThen
 stuck_then x from p p' t e first began =
     let m = t.makes in
     let told = stuck_told m.room.room t.made t.tells in
-    let vain = subst (MakesOr from m.found m.room) told.0 m.makes in
+    let vain = subst (MakesOr x.seats from m.found m.room) told.0 m.makes in
     subst IsStuck (sym (last_is x m.found.room None 0 m.room.room p p' m.turn.one)) (is_stuck x m.room m.log vain.1.is.cleared vain.1.is.tries.merges.2 told.1 e first began (seen p') (m.stands e first began))

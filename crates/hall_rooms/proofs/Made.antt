@@ -75,26 +75,26 @@ vain from old new c m whole = record {
   cleared = is_cleared new whole m.merges.0.1 (m.leaves.epochs.1 ∙ c.none_waits) (m.merges.1.retired ∙ c.none_retired) m.leaves.no_job;
 }
 
-module _ (from : ℕ) (had : Bool) (old new : RoomValue) where
-  pub in_vain : IsCleared old → MergesThroughOr from old new (Ok false) → IsWhole new → MergesClearedOr from had old new (Ok had)
+module _ (seats from : ℕ) (had : Bool) (old new : RoomValue) where
+  pub in_vain : IsCleared old → MergesThroughOr from old new (Ok false) → IsWhole new → MergesClearedOr seats from had old new (Ok had)
   in_vain c m whole = inr (vain from old new c m whole, refl)
 
   -- merging answered a fault
-  pub merge_fails : (fault : MergeFault) → MergesThroughOr from old new (Err fault) → MergesClearedOr from had old new (Err fault)
+  pub merge_fails : (fault : MergeFault) → MergesThroughOr from old new (Err fault) → MergesClearedOr seats from had old new (Err fault)
   merge_fails (merge_fault.Fetch fault) m = m
   merge_fails (merge_fault.Room fault) m = inl m
 
   -- two were merged, and the room was cleared, or that came to no end
-  pub merged_clears : (merged : RoomValue) → MergesThroughOr from old merged (Ok true) → (r : Result Bool MergeFault) → ClearsMergedOr merged new r → MergesClearedOr from had old new r
+  pub merged_clears : (merged : RoomValue) → MergesThroughOr from old merged (Ok true) → (r : Result Bool MergeFault) → ClearsMergedOr seats merged new r → MergesClearedOr seats from had old new r
   merged_clears merged m (Ok done) c = inl (record { merged = merged; merges = m; clears = c.0 }, c.1)
   merged_clears merged m (Err (merge_fault.Fetch fault)) c = absurd c
   merged_clears merged m (Err (merge_fault.Room fault)) c = inr (merged, m, c)
 
 -- clearing names no place
-pub clears_unread : (P : Type 0) (merged new : RoomValue) (r : Result Bool MergeFault) → ClearsMergedOr merged new r → OnDamage r P
-clears_unread P merged new (Ok done) c = tt
-clears_unread P merged new (Err (merge_fault.Fetch fault)) c = absurd c
-clears_unread P merged new (Err (merge_fault.Room fault)) c = tt
+pub clears_unread : (seats : ℕ) (P : Type 0) (merged new : RoomValue) (r : Result Bool MergeFault) → ClearsMergedOr seats merged new r → OnDamage r P
+clears_unread seats P merged new (Ok done) c = tt
+clears_unread seats P merged new (Err (merge_fault.Fetch fault)) c = absurd c
+clears_unread seats P merged new (Err (merge_fault.Room fault)) c = tt
 
 -- a bad place is one of a log that did not begin
 pub merge_damage : (x : Beginning) (from : ℕ) (old new : RoomValue) (p : RoomPass) (c : IsCleanTurn x old p) (r : Result Bool MergeFault) → MergesThroughOr from old new r → OnDamage r (NotBegan x)
@@ -102,11 +102,11 @@ merge_damage x from old new p c r m = on_damage r (StandsForNone old) (NotBegan 
 
 -- ---- making room
 
-module _ (from : ℕ) (found cleared room : RoomValue) (c : Clears found cleared) (had : Bool) (is : had ≡ is_some (retired_from found.room 0)) where
+module _ (seats from : ℕ) (found cleared room : RoomValue) (c : Clears found cleared) (had : Bool) (is : had ≡ is_some (retired_from found.room 0)) where
   once : (P : RoomValue → Type 0) → P cleared → OnceCleared found P
   once P p = record { cleared = cleared; clears = c; is = p }
 
-  done : (h b : Bool) → h ≡ is_some (retired_from found.room 0) → (MergesAndClears from cleared room × (b ≡ true)) ⊎ (TriesInVain from cleared room × (b ≡ h)) → MakesOr from found room (Ok b)
+  done : (h b : Bool) → h ≡ is_some (retired_from found.room 0) → (MergesAndClears from cleared room × (b ≡ true)) ⊎ (TriesInVain from cleared room × (b ≡ h)) → MakesOr seats from found room (Ok b)
   done h true same (inl m) = inl (once _ m.0)
   done h false same (inl m) = absurd (true≢false (sym m.1))
   done true true same (inr t) = inr (some_retired found.room (sym same), once _ t.0)
@@ -114,7 +114,7 @@ module _ (from : ℕ) (found cleared room : RoomValue) (c : Clears found cleared
   done true false same (inr t) = absurd (true≢false (sym t.1))
   done false false same (inr t) = (not_retired found.room (sym same), once _ t.0)
 
-  pub made : (r : Result Bool MergeFault) → MergesClearedOr from had cleared room r → MakesOr from found room r
+  pub made : (r : Result Bool MergeFault) → MergesClearedOr seats from had cleared room r → MakesOr seats from found room r
   made (Ok b) m = done had b is m
   made (Err (merge_fault.Fetch fault)) m = once _ m
   made (Err (merge_fault.Room room_fault.Disk)) m = (c.seals.opened, ⊎_elim (λ (n : MergesThroughOr from cleared room (Err (merge_fault.Room room_fault.Disk))). n.merges.1) (λ n. n.2.1) m, inr (once _ m))
@@ -122,13 +122,13 @@ module _ (from : ℕ) (found cleared room : RoomValue) (c : Clears found cleared
       (λ (n : MergesThroughOr from cleared room (Err (merge_fault.Room (room_fault.Shut epoch)))). true≢false (sym n.merges.0 ∙ c.cleared.not_shut))
       (λ n. true≢false (sym n.2.0 ∙ n.1.merges.0.1))
       m)
-  made (Err (merge_fault.Room room_fault.NoMemory)) m = (⊎_elim (λ (n : MergesThroughOr from cleared room (Err (merge_fault.Room room_fault.NoMemory))). n.merges.0.1) (λ n. n.2) m, inr (once _ m))
+  made (Err (merge_fault.Room room_fault.NoMemory)) m = (⊎_elim (λ (n : MergesThroughOr from cleared room (Err (merge_fault.Room room_fault.NoMemory))). n.merges.0.1) (λ n. n.2.0) m, inr (once _ m))
 
 -- it was not cleared
-pub not_cleared : (from : ℕ) (found room : RoomValue) (fault : RoomFault) → Stops found room fault → MakesOr from found room (Err (merge_fault.Room fault))
-not_cleared from found room room_fault.Disk s = (s.0, s.1, inl s)
-not_cleared from found room (room_fault.Shut epoch) s = s
-not_cleared from found room room_fault.NoMemory s = (s, inl s)
+pub not_cleared : (seats from : ℕ) (found room : RoomValue) (fault : RoomFault) → Stops seats found room fault → MakesOr seats from found room (Err (merge_fault.Room fault))
+not_cleared seats from found room room_fault.Disk s = (s.0, s.1, inl s)
+not_cleared seats from found room (room_fault.Shut epoch) s = s
+not_cleared seats from found room room_fault.NoMemory s = (s.0, inl s)
 
 -- ---- the end of the turn
 

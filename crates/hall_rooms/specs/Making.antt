@@ -1,5 +1,5 @@
 -- Making room with the passes of a hall, in one turn of the seat 1.
-use Rattle.std.specs.Prelude.{◌≡◌, ◌≢◌, ◌⊎◌, ℕ, ◌+◌, ◌<◌, ◌≤◌, ◌==◌, if◌then◌else◌, Bool, true, false, List, [], length, None, Result, Ok, Err}
+use Rattle.std.specs.Prelude.{◌≡◌, ◌≢◌, ◌⊎◌, ℕ, zero, suc, ◌+◌, ◌<◌, ◌≤◌, ◌==◌, if◌then◌else◌, Bool, true, false, List, [], length, None, Result, Ok, Err}
 use mathlib.Core.Option.{some}
 use lib.ListN.{get_elem?}
 use Rattle.fine_model.specs.declared.Row.{Row}
@@ -23,7 +23,7 @@ use Rattle.hall_rooms.specs.declared.making.Space.{Space}
 use Rattle.hall_rooms.specs.declared.making.Space.TheVariants as space
 use Rattle.hall_rooms.specs.Rooms.{IsRoomPass, RoomPass, beginning_of, room_log}
 use Rattle.hall_rooms.specs.Steps.{ErasesOr, IsCleanTurn, IsFailedTurn}
-use Rattle.hall_rooms.specs.Turning.{AddsEpoch, MeetsNone, MeetsSome, NotBegan, OneTurn}
+use Rattle.hall_rooms.specs.Turning.{AddsEpoch, ErasesFirst, ErasesUnheld, LosesFirst, LosesTarget, MeetsNone, MeetsSome, NotBegan, OneTurn, SealedAndPosted, StillWaits, StopsPosting}
 use Rattle.hall_rooms.specs.Merging.{Failing, MergesThroughOr, OnDamage}
 
 -- ---- the fronts of passes
@@ -97,11 +97,42 @@ pub record Clears (old new : RoomValue) : Type 0 where
   pub seals : SealsAll old.room new.room
   pub cleared : IsCleared new
 
+-- One round that came to its end: what waited was sealed and each seat has a new view, and then all was erased that no view names.
+pub record EndsRound (seats : ℕ) (old new : RoomValue) : Type 0 where
+  pub shown : RoomState
+  pub posts : SealedAndPosted old.room shown seats
+  pub erased : ℕ
+  pub erases : ErasesUnheld shown new.room erased
+
+-- so many rounds, each of which left something retired
+abbrev pub EndRounds : ℕ → ℕ → RoomValue → RoomValue → Type 0
+EndRounds seats zero old new = new ≡ old
+EndRounds seats (suc rounds) old new = (mid : RoomValue) × EndRounds seats rounds old mid × EndsRound seats mid new × (new.room.retired ≢ [])
+
+-- what waited was sealed and each seat has a new view, and erasing came so far
+abbrev pub StopsErasing : ℕ → RoomState → (RoomState → Type 0) → Type 0
+StopsErasing seats old erases = (shown : RoomState) × SealedAndPosted old shown seats × erases shown
+
+-- a round stopped in sealing, in posting behind that, or in erasing behind both
+abbrev pub StopsRound : ℕ → RoomValue → RoomValue → RoomFault → Type 0
+StopsRound seats old new room_fault.Disk =
+    (old.room.is_shut ≡ false) × (new.room.is_shut ≡ true) × (LosesTarget old.room new.room ⊎ (StopsPosting old.room new.room seats ⊎ StopsErasing seats old.room (λ shown. LosesFirst shown new.room)))
+StopsRound seats old new (room_fault.Shut epoch) = (old.room.is_shut ≡ true) × (epoch ≡ old.room.sealed) × (new ≡ old)
+StopsRound seats old new room_fault.NoMemory =
+    (new.room.is_shut ≡ false) × (StillWaits old.room new.room ⊎ (StopsPosting old.room new.room seats ⊎ StopsErasing seats old.room (λ shown. ErasesFirst shown new.room)))
+
+-- Some rounds came to their end, and the one behind them stopped. Nothing else was done.
+pub record StopsClearing (seats : ℕ) (old new : RoomValue) (fault : RoomFault) : Type 0 where
+  pub rounds : ℕ
+  pub before : RoomValue
+  pub ended : EndRounds seats rounds old before
+  pub stops : StopsRound seats before new fault
+
 -- sealing, posting and erasing came to no end
-abbrev pub Stops : RoomValue → RoomValue → RoomFault → Type 0
-Stops old new room_fault.Disk = (old.room.is_shut ≡ false) × (new.room.is_shut ≡ true)
-Stops old new (room_fault.Shut epoch) = (old.room.is_shut ≡ true) × (epoch ≡ old.room.sealed) × (new ≡ old)
-Stops old new room_fault.NoMemory = new.room.is_shut ≡ false
+abbrev pub Stops : ℕ → RoomValue → RoomValue → RoomFault → Type 0
+Stops seats old new room_fault.Disk = (old.room.is_shut ≡ false) × (new.room.is_shut ≡ true) × StopsClearing seats old new room_fault.Disk
+Stops seats old new (room_fault.Shut epoch) = (old.room.is_shut ≡ true) × (epoch ≡ old.room.sealed) × (new ≡ old)
+Stops seats old new room_fault.NoMemory = (new.room.is_shut ≡ false) × StopsClearing seats old new room_fault.NoMemory
 
 -- how a turn goes on behind such a fault
 abbrev pub GoesOnAfter : Beginning → RoomValue → RoomPass → RoomFault → Type 0
@@ -109,20 +140,24 @@ GoesOnAfter x room p room_fault.Disk = IsFailedTurn x room p
 GoesOnAfter x room p (room_fault.Shut epoch) = IsCleanTurn x room p
 GoesOnAfter x room p room_fault.NoMemory = IsCleanTurn x room p
 
+-- it is told whether nothing is retired
+abbrev pub LooksRetired : RoomState → Bool → Type 0
+LooksRetired room done = (done ≡ true → room.retired ≡ []) × (done ≡ false → room.retired ≢ [])
+
 -- what no view names is erased, and it is told whether nothing is retired
 abbrev pub ErasesAndLooks : RoomValue → RoomValue → Result Bool RoomFault → Type 0
-ErasesAndLooks old new (Ok done) = (erased : ℕ) × ErasesOr old new (Ok erased) × (done ≡ true → new.room.retired ≡ [])
+ErasesAndLooks old new (Ok done) = (erased : ℕ) × ErasesOr old new (Ok erased) × LooksRetired new.room done
 ErasesAndLooks old new (Err fault) = ErasesOr old new (Err fault)
 
 -- one round: what waited is sealed, views are posted to all seats and taken, and what no view names is erased
 abbrev pub RoundOr : Beginning → RoomValue → RoomValue → RoomPass → List RoomPass → Result Bool RoomFault → Type 0
-RoundOr x old new p' others (Ok done) = IsCleanTurn x new p' × SealsAll old.room new.room × IsAhead state_of x p' × AllAhead x others × (done ≡ true → new.room.retired ≡ [])
-RoundOr x old new p' others (Err fault) = GoesOnAfter x new p' fault × Stops old new fault
+RoundOr x old new p' others (Ok done) = IsCleanTurn x new p' × SealsAll old.room new.room × IsAhead state_of x p' × AllAhead x others × EndsRound x.seats old new × LooksRetired new.room done
+RoundOr x old new p' others (Err fault) = GoesOnAfter x new p' fault × StopsRound x.seats old new fault
 
 -- rounds until nothing is retired
 abbrev pub ClearsOr : Beginning → RoomValue → RoomValue → RoomPass → List RoomPass → Result (Unit {0}) RoomFault → Type 0
 ClearsOr x old new p' others (Ok done) = IsCleanTurn x new p' × Clears old new × IsAhead state_of x p' × AllAhead x others
-ClearsOr x old new p' others (Err fault) = GoesOnAfter x new p' fault × Stops old new fault
+ClearsOr x old new p' others (Err fault) = GoesOnAfter x new p' fault × Stops x.seats old new fault
 
 -- ---- merging what was cleared
 
@@ -138,20 +173,20 @@ pub record TriesInVain (from : ℕ) (old new : RoomValue) : Type 0 where
   pub cleared : IsCleared new
 
 -- it stopped in merging, or in clearing behind it
-abbrev pub StopsMerging : ℕ → RoomValue → RoomValue → RoomFault → Type 0
-StopsMerging from old new fault = MergesThroughOr from old new (Err (merge_fault.Room fault)) ⊎ ((merged : RoomValue) × MergesThroughOr from old merged (Ok true) × Stops merged new fault)
+abbrev pub StopsMerging : ℕ → ℕ → RoomValue → RoomValue → RoomFault → Type 0
+StopsMerging seats from old new fault = MergesThroughOr from old new (Err (merge_fault.Room fault)) ⊎ ((merged : RoomValue) × MergesThroughOr from old merged (Ok true) × Stops seats merged new fault)
 
 -- a room in which two were merged is cleared
-abbrev pub ClearsMergedOr : RoomValue → RoomValue → Result Bool MergeFault → Type 0
-ClearsMergedOr old new (Ok done) = Clears old new × (done ≡ true)
-ClearsMergedOr old new (Err (merge_fault.Fetch fault)) = ⊥
-ClearsMergedOr old new (Err (merge_fault.Room fault)) = Stops old new fault
+abbrev pub ClearsMergedOr : ℕ → RoomValue → RoomValue → Result Bool MergeFault → Type 0
+ClearsMergedOr seats old new (Ok done) = Clears old new × (done ≡ true)
+ClearsMergedOr seats old new (Err (merge_fault.Fetch fault)) = ⊥
+ClearsMergedOr seats old new (Err (merge_fault.Room fault)) = Stops seats old new fault
 
 -- two were merged, or none fit, and the answer is as it was told
-abbrev pub MergesClearedOr : ℕ → Bool → RoomValue → RoomValue → Result Bool MergeFault → Type 0
-MergesClearedOr from had old new (Ok done) = (MergesAndClears from old new × (done ≡ true)) ⊎ (TriesInVain from old new × (done ≡ had))
-MergesClearedOr from had old new (Err (merge_fault.Fetch fault)) = MergesThroughOr from old new (Err (merge_fault.Fetch fault))
-MergesClearedOr from had old new (Err (merge_fault.Room fault)) = StopsMerging from old new fault
+abbrev pub MergesClearedOr : ℕ → ℕ → Bool → RoomValue → RoomValue → Result Bool MergeFault → Type 0
+MergesClearedOr seats from had old new (Ok done) = (MergesAndClears from old new × (done ≡ true)) ⊎ (TriesInVain from old new × (done ≡ had))
+MergesClearedOr seats from had old new (Err (merge_fault.Fetch fault)) = MergesThroughOr from old new (Err (merge_fault.Fetch fault))
+MergesClearedOr seats from had old new (Err (merge_fault.Room fault)) = StopsMerging seats from old new fault
 
 -- how a turn goes on behind each answer: some call of it failed, or none
 abbrev pub GoesOn : Beginning → RoomValue → RoomPass → Result Bool MergeFault → Type 0
@@ -167,16 +202,16 @@ pub record OnceCleared (found : RoomValue) (P : RoomValue → Type 0) : Type 0 w
 
 -- Something was retired, which is erased, and no two neighbours fit; or two were merged. False: nothing was retired and no two fit. It
 -- stopped before the room was cleared, or behind that.
-abbrev pub MakesOr : ℕ → RoomValue → RoomValue → Result Bool MergeFault → Type 0
-MakesOr from found room (Ok true) =
+abbrev pub MakesOr : ℕ → ℕ → RoomValue → RoomValue → Result Bool MergeFault → Type 0
+MakesOr seats from found room (Ok true) =
     OnceCleared found (λ cleared. MergesAndClears from cleared room) ⊎ ((found.room.retired ≢ []) × OnceCleared found (λ cleared. TriesInVain from cleared room))
-MakesOr from found room (Ok false) = (found.room.retired ≡ []) × OnceCleared found (λ cleared. TriesInVain from cleared room)
-MakesOr from found room (Err (merge_fault.Fetch fault)) = OnceCleared found (λ cleared. MergesThroughOr from cleared room (Err (merge_fault.Fetch fault)))
-MakesOr from found room (Err (merge_fault.Room room_fault.Disk)) =
-    (found.room.is_shut ≡ false) × (room.room.is_shut ≡ true) × (Stops found room room_fault.Disk ⊎ OnceCleared found (λ cleared. StopsMerging from cleared room room_fault.Disk))
-MakesOr from found room (Err (merge_fault.Room (room_fault.Shut epoch))) = (found.room.is_shut ≡ true) × (epoch ≡ found.room.sealed) × (room ≡ found)
-MakesOr from found room (Err (merge_fault.Room room_fault.NoMemory)) =
-    (room.room.is_shut ≡ false) × (Stops found room room_fault.NoMemory ⊎ OnceCleared found (λ cleared. StopsMerging from cleared room room_fault.NoMemory))
+MakesOr seats from found room (Ok false) = (found.room.retired ≡ []) × OnceCleared found (λ cleared. TriesInVain from cleared room)
+MakesOr seats from found room (Err (merge_fault.Fetch fault)) = OnceCleared found (λ cleared. MergesThroughOr from cleared room (Err (merge_fault.Fetch fault)))
+MakesOr seats from found room (Err (merge_fault.Room room_fault.Disk)) =
+    (found.room.is_shut ≡ false) × (room.room.is_shut ≡ true) × (Stops seats found room room_fault.Disk ⊎ OnceCleared found (λ cleared. StopsMerging seats from cleared room room_fault.Disk))
+MakesOr seats from found room (Err (merge_fault.Room (room_fault.Shut epoch))) = (found.room.is_shut ≡ true) × (epoch ≡ found.room.sealed) × (room ≡ found)
+MakesOr seats from found room (Err (merge_fault.Room room_fault.NoMemory)) =
+    (room.room.is_shut ≡ false) × (Stops seats found room room_fault.NoMemory ⊎ OnceCleared found (λ cleared. StopsMerging seats from cleared room room_fault.NoMemory))
 
 -- ---- the turn
 
@@ -195,7 +230,7 @@ pub record MakesRoom (x : Beginning) (from : ℕ) (p p' : RoomPass) (r : Result 
   -- it is the room of this log, and stands for the history that the pass then saw
   pub log : room_log room ≡ x.log
   pub stands : (e : ℕ) (first : List Row) → Began x.log e first → Stands room first e (seen p')
-  pub makes : MakesOr from found room r
+  pub makes : MakesOr x.seats from found room r
   pub damage : OnDamage r (NotBegan x)
   pub meets : Failing r (MeetsSome x p p') (MeetsNone x p p')
 

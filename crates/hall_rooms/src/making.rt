@@ -130,7 +130,7 @@ fn clear_merged<D: LogDisk, W: Wait>(
     ensures no_job { room.new.room.job ≡ None }
     ensures turn { GoesOn (beginning_of hall.now) room.new pass.new result }
     ensures ahead { IfOk result (λ made. IsAhead state_of (beginning_of hall.now) pass.new × AllAhead (beginning_of hall.now) others.new) }
-    ensures clears { ClearsMergedOr room.old room.new result }
+    ensures clears { ClearsMergedOr (beginning_of hall.now).seats room.old room.new result }
 {
     match clear(rt, hall, pass, others, room) {
         Ok(()) => Ok(true),
@@ -157,7 +157,7 @@ fn merge_cleared<D: LogDisk, W: Wait>(
     ensures no_job { room.new.room.job ≡ None }
     ensures turn { GoesOn (beginning_of hall.now) room.new pass.new result }
     ensures ahead { IfOk result (λ made. IsAhead state_of (beginning_of hall.now) pass.new × AllAhead (beginning_of hall.now) others.new) }
-    ensures merges { MergesClearedOr from had_retired room.old room.new result }
+    ensures merges { MergesClearedOr (beginning_of hall.now).seats from had_retired room.old room.new result }
     ensures damage { OnDamage result (NotBegan (beginning_of hall.now)) }
 {
     match merge_through(alloc, room, from) {
@@ -189,7 +189,7 @@ fn clear_and_merge<D: LogDisk, W: Wait>(
     ensures no_job { room.new.room.job ≡ None }
     ensures turn { GoesOn (beginning_of hall.now) room.new pass.new result }
     ensures ahead { IfOk result (λ made. IsAhead state_of (beginning_of hall.now) pass.new × AllAhead (beginning_of hall.now) others.new) }
-    ensures makes { MakesOr from room.old room.new result }
+    ensures makes { MakesOr (beginning_of hall.now).seats from room.old room.new result }
     ensures damage { OnDamage result (NotBegan (beginning_of hall.now)) }
 {
     let had_retired = room.retired(0).is_some();

@@ -1,8 +1,8 @@
 -- Rounds until nothing is retired.
-use Rattle.std.proofs.Common.{Ok, inl, refl, subst}
+use Rattle.std.proofs.Common.{suc, Ok, inl, refl, subst}
 use Rattle.hall_rooms.specs.Rooms.{beginning_of}
 use Rattle.hall_rooms.specs.Making.{RoundOr}
-use Rattle.hall_rooms.proofs.Clearing.{cleared, job_stays, round_fails, round_more}
+use Rattle.hall_rooms.proofs.Clearing.{cleared, job_stays, round_fails, round_more, rounds_more}
 use Rattle.hall_rooms.proofs.Renewing.{go_none, go_then, part_on}
 use Rattle.hall_rooms.proofs.making.clear.Goals as goal
 
@@ -13,6 +13,7 @@ loop-init g c = record {
   clean = c.requires.part.turn;
   no_job = c.requires.no_job;
   so_far = inl refl;
+  rounds = (0, refl);
 }
 
 pub renew_and_erase-requires-clause-part : goal.renew_and_erase-requires-clause-part
@@ -31,6 +32,7 @@ loop-preserved g c =
       clean = round.0;
       no_job = job_stays c.loop.room.room new.room e.job i.no_job;
       so_far = round_more x c.args.room.now c.loop.room new i.so_far c.renew_and_erase.new.pass c.renew_and_erase.new.others round;
+      rounds = (suc i.rounds.0, rounds_more x c.args.room.now c.loop.room new i.so_far c.renew_and_erase.new.pass c.renew_and_erase.new.others i.rounds.0 i.rounds.1 round);
     }
 
 pub returns-then-is_done-clause-goes : goal.returns-then-is_done-clause-goes
@@ -52,4 +54,5 @@ returns-in-Err-clause-goes g c =
 
 pub returns-in-Err-clause-clears : goal.returns-in-Err-clause-clears
 returns-in-Err-clause-clears g c =
-    round_fails (beginning_of c.args.hall.now) c.args.room.now c.loop.room c.renew_and_erase.new.room c.loop.invariant.so_far c.renew_and_erase.new.pass c.renew_and_erase.new.others c.in-Err.fault c.in-Err.ensures.round
+    round_fails (beginning_of c.args.hall.now) c.args.room.now c.loop.room c.renew_and_erase.new.room c.loop.invariant.so_far c.renew_and_erase.new.pass c.renew_and_erase.new.others c.loop.invariant.rounds.0 c.loop.invariant.rounds.1
+    c.in-Err.fault c.in-Err.ensures.round

@@ -18,10 +18,10 @@ returns-in-Ok-clause-goes g c = go_then c.args.hall.now c.args.pass.now c.clear.
 
 pub returns-in-Ok-clause-makes : goal.returns-in-Ok-clause-makes
 returns-in-Ok-clause-makes g c =
-    made c.args.from c.args.room.now c.clear.new.room c.merge_cleared.new.room c.in-Ok.ensures.clears.1 c.is_some-had_retired.result (let e = c.is_some-had_retired.ensures in let f = c.retired.ensures.lowest in cc (e, f)) c.merge_cleared.result c.merge_cleared.ensures.merges
+    made (beginning_of c.args.hall.now).seats c.args.from c.args.room.now c.clear.new.room c.merge_cleared.new.room c.in-Ok.ensures.clears.1 c.is_some-had_retired.result (let e = c.is_some-had_retired.ensures in let f = c.retired.ensures.lowest in cc (e, f)) c.merge_cleared.result c.merge_cleared.ensures.merges
 
 pub returns-in-Err-clause-turn : goal.returns-in-Err-clause-turn
 returns-in-Err-clause-turn g c = goes_stopped (beginning_of c.args.hall.now) c.clear.new.room c.clear.new.pass c.in-Err.fault c.in-Err.ensures.clears.0
 
 pub returns-in-Err-clause-makes : goal.returns-in-Err-clause-makes
-returns-in-Err-clause-makes g c = not_cleared c.args.from c.args.room.now c.clear.new.room c.in-Err.fault c.in-Err.ensures.clears.1
+returns-in-Err-clause-makes g c = not_cleared (beginning_of c.args.hall.now).seats c.args.from c.args.room.now c.clear.new.room c.in-Err.fault c.in-Err.ensures.clears.1

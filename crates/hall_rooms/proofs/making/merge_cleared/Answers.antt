@@ -31,7 +31,7 @@ returns-then-not-merged-clause-turn g c =
 
 pub returns-then-not-merged-clause-merges : goal.returns-then-not-merged-clause-merges
 returns-then-not-merged-clause-merges g c =
-    in_vain c.args.from c.args.had_retired c.args.room.now c.merge_through.new.room c.requires.cleared
+    in_vain (beginning_of c.args.hall.now).seats c.args.from c.args.had_retired c.args.room.now c.merge_through.new.room c.requires.cleared
     (subst (λ b. MergesThroughOr c.args.from c.args.room.now c.merge_through.new.room (Ok b)) c.if-not-merged.true c.in-Ok.ensures) c.counts-whole.ensures.whole
 
 pub clear_merged-requires-clause-part : goal.clear_merged-requires-clause-part
@@ -44,7 +44,7 @@ clear_merged-requires-clause-no_job g c κs within = c.in-Ok.ensures.leaves.no_j
 
 pub returns-else-not-merged-clause-merges : goal.returns-else-not-merged-clause-merges
 returns-else-not-merged-clause-merges g c =
-    merged_clears c.args.from c.args.had_retired c.args.room.now c.clear_merged.new.room c.merge_through.new.room
+    merged_clears (beginning_of c.args.hall.now).seats c.args.from c.args.had_retired c.args.room.now c.clear_merged.new.room c.merge_through.new.room
     (subst (λ b. MergesThroughOr c.args.from c.args.room.now c.merge_through.new.room (Ok b)) c.if-not-merged.false c.in-Ok.ensures) c.clear_merged.result c.clear_merged.ensures.clears
 
 pub returns-in-Err-clause-goes : goal.returns-in-Err-clause-goes
@@ -58,10 +58,10 @@ returns-in-Err-clause-turn g c =
     goes_merged (beginning_of c.args.hall.now) c.args.from c.args.room.now c.merge_through.new.room c.args.pass.now c.requires.part.turn c.requires.cleared.no_job (Err c.in-Err.fault) c.in-Err.ensures
 
 pub returns-in-Err-clause-merges : goal.returns-in-Err-clause-merges
-returns-in-Err-clause-merges g c = merge_fails c.args.from c.args.had_retired c.args.room.now c.merge_through.new.room c.in-Err.fault c.in-Err.ensures
+returns-in-Err-clause-merges g c = merge_fails (beginning_of c.args.hall.now).seats c.args.from c.args.had_retired c.args.room.now c.merge_through.new.room c.in-Err.fault c.in-Err.ensures
 
 pub returns-else-not-merged-clause-damage : goal.returns-else-not-merged-clause-damage
-returns-else-not-merged-clause-damage g c = clears_unread (NotBegan (beginning_of c.args.hall.now)) c.merge_through.new.room c.clear_merged.new.room c.clear_merged.result c.clear_merged.ensures.clears
+returns-else-not-merged-clause-damage g c = clears_unread (beginning_of c.args.hall.now).seats (NotBegan (beginning_of c.args.hall.now)) c.merge_through.new.room c.clear_merged.new.room c.clear_merged.result c.clear_merged.ensures.clears
 
 pub returns-in-Err-clause-damage : goal.returns-in-Err-clause-damage
 returns-in-Err-clause-damage g c =

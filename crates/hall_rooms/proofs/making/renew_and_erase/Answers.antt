@@ -20,7 +20,7 @@ returns-in-Ok-clause-job g c =
 pub returns-in-Ok-clause-round : goal.returns-in-Ok-clause-round
 returns-in-Ok-clause-round g c =
     let x = beginning_of c.args.hall.now in
-    round_goes x c.args.room.now c.show.new.room c.erase_and_look.new.room c.refresh_all.new.others c.refresh_all.new.pass x.seats c.in-Ok.ensures.shows.3 c.in-Ok.ensures.shows.4 c.refresh_all.ensures.turn c.refresh_all.ensures.ahead.0 c.refresh_all.ensures.ahead.1
+    round_goes x c.args.room.now c.show.new.room c.erase_and_look.new.room c.refresh_all.new.others c.refresh_all.new.pass c.in-Ok.ensures.shows.3 c.in-Ok.ensures.shows.4 c.refresh_all.ensures.turn c.refresh_all.ensures.ahead.0 c.refresh_all.ensures.ahead.1
     c.erase_and_look.result c.erase_and_look.ensures
 
 pub returns-in-Err-clause-goes : goal.returns-in-Err-clause-goes

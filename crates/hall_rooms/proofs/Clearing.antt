@@ -1,5 +1,5 @@
 -- Rounds of sealing, posting, looking and erasing, until nothing is retired.
-use Rattle.std.proofs.Common.{◌≡◌, ◌≢◌, ◌⊎◌, inl, inr, ⊎_elim, ℕ, suc, ◌+◌, ◌==◌, Bool, true, false, cond, true≢false, List, [], ◌∷◌, ◌++◌, filter, Some, None, Result, Ok, Err, refl, sym, ap, ◌∙◌, subst, arith, append-nil}
+use Rattle.std.proofs.Common.{◌≡◌, ◌≢◌, ◌⊎◌, inl, inr, ⊎_elim, ℕ, zero, suc, ◌+◌, ◌==◌, Bool, true, false, cond, true≢false, List, [], ◌∷◌, ◌++◌, filter, Some, None, Result, Ok, Err, refl, sym, ap, ◌∙◌, subst, arith, append-nil}
 use Rattle.std.specs.Prelude.{if◌then◌else◌, find, is_some, map, nat_le, not, nat_eq, option_to_list}
 use Rattle.std.specs.List.{list_any}
 use Rattle.std.proofs.lemmas.Bool.Decides.{leb_tells}
@@ -16,8 +16,8 @@ use Rattle.fine_hall.specs.declared.law.Beginning.{Beginning}
 use Rattle.fine_hall.specs.Halls.{IsAhead}
 use Rattle.hall_rooms.specs.Rooms.{RoomPass}
 use Rattle.hall_rooms.specs.Steps.{IsCleanTurn, ShowsOr}
-use Rattle.hall_rooms.specs.Turning.{SealedAndPosted}
-use Rattle.hall_rooms.specs.Making.{AllAhead, ClearsOr, EndRounds, ErasesAndLooks, IsCleared, RoundOr, SealsAll, Stops, StopsRound}
+use Rattle.hall_rooms.specs.Turning.{ErasesFirst, LosesFirst, LosesTarget, SealedAndPosted, StillWaits, StopsPosting}
+use Rattle.hall_rooms.specs.Making.{AllAhead, ClearsOr, EndRounds, ErasesAndLooks, IsCleared, RoundOr, SameOrSealed, SealsAll, Stops, StopsErasing, StopsRound}
 use Rattle.hall_rooms.proofs.Erased.{job_kept, may_settle}
 use Rattle.hall_rooms.proofs.Turned.{some_failed}
 
@@ -85,12 +85,53 @@ shut_then : (seats : ℕ) (old mid new : RoomValue) → SoFar old mid → (epoch
 shut_then seats old mid new (inl is) epoch s = subst (λ v. Stops seats v new (room_fault.Shut epoch)) is s
 shut_then seats old mid new (inr was) epoch s = absurd (true≢false (sym s.0 ∙ was.not_shut))
 
+-- ---- what a round that stopped leaves of the chain
+
+-- where nothing waited it is as it was
+record LeavesChain (old new : RoomState) : Type 0 where
+  pub idle : old.waiting ≡ 0 → new.parts ≡ old.parts
+  pub is : SameOrSealed old new
+
+same_parts : (old new : RoomState) → new.parts ≡ old.parts → LeavesChain old new
+same_parts old new same = record { idle = λ none. same; is = inl same }
+
+posted_parts : (old shown new : RoomState) (seats : ℕ) → SealedAndPosted old shown seats → new.parts ≡ shown.parts → LeavesChain old new
+posted_parts old shown new seats s same = record { idle = idle; is = by old.waiting refl }
+  where
+    idle : old.waiting ≡ 0 → new.parts ≡ old.parts
+    idle none = same ∙ (s.parts none).0
+
+    by : (n : ℕ) → old.waiting ≡ n → SameOrSealed old new
+    by zero is = inl (idle is)
+    by (suc n) is = let e = s.epoch (λ none. absurd (omega (arith, is, none))) in inr (e.0, same ∙ e.1, e.2)
+
+disk_chain : (seats : ℕ) (old new : RoomState) → LosesTarget old new ⊎ (StopsPosting old new seats ⊎ StopsErasing seats old (λ shown. LosesFirst shown new)) → LeavesChain old new
+disk_chain seats old new (inl lost) = same_parts old new (ap (λ (r : RoomState). r.parts) lost.same)
+disk_chain seats old new (inr (inl stopped)) = posted_parts old new new stopped.0 stopped.2 refl
+disk_chain seats old new (inr (inr stopped)) = posted_parts old stopped.0 new seats stopped.1 (ap (λ (r : RoomState). r.parts) stopped.2.same)
+
+memory_chain : (seats : ℕ) (old new : RoomState) → StillWaits old new ⊎ (StopsPosting old new seats ⊎ StopsErasing seats old (λ shown. ErasesFirst shown new)) → LeavesChain old new
+memory_chain seats old new (inl still) = same_parts old new (ap (λ (r : RoomState). r.parts) still.same)
+memory_chain seats old new (inr (inl stopped)) = posted_parts old new new stopped.0 stopped.2 refl
+memory_chain seats old new (inr (inr stopped)) = posted_parts old stopped.0 new seats stopped.1 (ap (λ (r : RoomState). r.parts) stopped.2.erases.same)
+
+chain_then : (old mid new : RoomValue) → SoFar old mid → LeavesChain mid.room new.room → SameOrSealed old.room new.room
+chain_then old mid new (inl is) c = subst (λ (v : RoomValue). SameOrSealed v.room new.room) is c.is
+chain_then old mid new (inr was) c = by old.room.waiting refl
+  where
+    same : new.room.parts ≡ mid.room.parts
+    same = c.idle was.none_waits
+
+    by : (n : ℕ) → old.room.waiting ≡ n → SameOrSealed old.room new.room
+    by zero is = inl (same ∙ was.parts is)
+    by (suc n) is = let e = was.epoch (λ none. absurd (omega (arith, is, none))) in inr (e.0, same ∙ e.1, e.2)
+
 -- behind some rounds one stopped
 module _ (seats : ℕ) (old mid new : RoomValue) (so_far : SoFar old mid) (rounds : ℕ) (ended : EndRounds seats rounds old mid) where
   pub stops_then : (fault : RoomFault) → StopsRound seats mid new fault → Stops seats old new fault
-  stops_then room_fault.Disk s = (was_open old mid so_far s.0, s.1, record { rounds = rounds; before = mid; ended = ended; stops = s })
+  stops_then room_fault.Disk s = (was_open old mid so_far s.0, s.1, record { rounds = rounds; before = mid; ended = ended; stops = s; chain = chain_then old mid new so_far (disk_chain seats mid.room new.room s.2) })
   stops_then (room_fault.Shut epoch) s = shut_then seats old mid new so_far epoch s
-  stops_then room_fault.NoMemory s = (s.0, record { rounds = rounds; before = mid; ended = ended; stops = s })
+  stops_then room_fault.NoMemory s = (s.0, record { rounds = rounds; before = mid; ended = ended; stops = s; chain = chain_then old mid new so_far (memory_chain seats mid.room new.room s.1) })
 
 -- ---- one round
 

@@ -121,12 +121,17 @@ StopsRound seats old new (room_fault.Shut epoch) = (old.room.is_shut ≡ true) �
 StopsRound seats old new room_fault.NoMemory =
     (new.room.is_shut ≡ false) × (StillWaits old.room new.room ⊎ (StopsPosting old.room new.room seats ⊎ StopsErasing seats old.room (λ shown. ErasesFirst shown new.room)))
 
+-- no neighbours were merged: the chain is as it was, or has one part more, of what waited
+abbrev pub SameOrSealed : RoomState → RoomState → Type 0
+SameOrSealed old new = (new.parts ≡ old.parts) ⊎ AddsEpoch old new
+
 -- Some rounds came to their end, and the one behind them stopped. Nothing else was done.
 pub record StopsClearing (seats : ℕ) (old new : RoomValue) (fault : RoomFault) : Type 0 where
   pub rounds : ℕ
   pub before : RoomValue
   pub ended : EndRounds seats rounds old before
   pub stops : StopsRound seats before new fault
+  pub chain : SameOrSealed old.room new.room
 
 -- sealing, posting and erasing came to no end
 abbrev pub Stops : ℕ → RoomValue → RoomValue → RoomFault → Type 0

@@ -68,6 +68,8 @@ fn erase_and_look<D: LogDisk>(room: &mut Room<D>) -> Result<bool, RoomFault>
 }
 
 /// Seals what waits, posts a view of it to each seat, which the passes take, and erases what no view names. Answers whether nothing is retired.
+///
+/// Behind a refusal it stopped in sealing, in posting or in erasing, as `seal_and_post` and `settle_views` do.
 fn renew_and_erase<D: LogDisk>(
     hall: &RoomHall<D>,
     pass: &mut Pass<View<D::Eye>>,
@@ -89,6 +91,8 @@ fn renew_and_erase<D: LogDisk>(
 }
 
 /// Seals what waits, and renews the views of all passes and erases what none names until nothing is retired.
+///
+/// Behind a refusal some rounds came to their end, each of which left something retired, and the next one stopped; nothing else was done.
 fn clear<D: LogDisk, W: Wait>(
     rt: &W,
     hall: &RoomHall<D>,
@@ -249,7 +253,9 @@ fn space_of(made: bool, free: u32) -> Space
 ///
 /// `Disk` comes only where the disk failed in this call, and the room is shut; `Shut` exactly where it was shut before, and the turn leaves it as it
 /// was. After `NoMemory` it is open. After a refusal of a read it is cleared, and the chain is as it was then; a bad place is named only where the log at
-/// entry was not told, or not sound. After `Disk` and `NoMemory` two may have been merged, and be retired still.
+/// entry was not told, or not sound. After `Disk` and `NoMemory` it stopped in clearing, in merging once the room was cleared, or in clearing behind two that
+/// were merged, which may be retired still. Clearing that stopped did some whole rounds of sealing, posting and erasing, and of the next one what
+/// `seal_and_post` and `settle_views` leave behind such a refusal, and nothing else: the chain is as it was, or has one part more, of what waited.
 ///
 /// It may wait for the room, and it goes on until nothing is retired. With all passes of the hall here two rounds of views are enough, since no other
 /// view is out then, which no clause says; where one is missing it waits until that one looked at its mailbox.
@@ -294,7 +300,8 @@ fn is_made(found: Space) -> bool
 }
 
 /// Makes room in the log of a hall, with all its passes, as `try_room` does. True where two were merged, or something was retired, which is erased;
-/// false exactly where nothing was retired and no two neighbours fit what is free, by what a read of the disk gives.
+/// false exactly where nothing was retired and no two neighbours fit what is free, by what a read of the disk gives. The refusals are those of
+/// `try_room`, and leave the room as they do there.
 pub fn make_room<D: LogDisk, W: Wait>(
     rt: &W,
     alloc: Global,

@@ -17,12 +17,12 @@ take_bucket-requires-2-clause-free c κs = let lt = near c.args.bucket c.require
 
 pub give_bucket-requires-clause-held : goal.give_bucket-requires-clause-held
 give_bucket-requires-clause-held c κs = let lt = near c.args.bucket c.requires.bucket in (
-    lt,
-    ap (λ l. get_elem? l c.args.bucket) c.in-Ok.ensures.takes.held ∙ set_at (known c.args.one.now).held c.args.bucket false true (c.requires.one.1 c.args.bucket (omega arith))
-  )
+  lt,
+  ap (λ l. get_elem? l c.args.bucket) c.in-Ok.ensures.takes.held ∙ set_at (known c.args.one.now).held c.args.bucket false true (c.requires.one.1 c.args.bucket (omega arith)),
+)
 
 pub take_bucket-requires-3-clause-free : goal.take_bucket-requires-3-clause-free
 take_bucket-requires-3-clause-free c κs = let lt = near c.args.bucket c.requires.bucket in (
-    lt,
-    ap (λ l. get_elem? l c.args.bucket) c.in-Err.ensures.conflict.1.places.same_held ∙ c.requires.two.1 c.args.bucket (omega arith)
-  )
+  lt,
+  ap (λ l. get_elem? l c.args.bucket) c.in-Err.ensures.conflict.1.places.same_held ∙ c.requires.two.1 c.args.bucket (omega arith),
+)

@@ -54,6 +54,27 @@ pub fn put_of(alloc: Global, account: u8, balance: u8) -> Option<Call>
     put_bytes(alloc, &[account], &[balance])
 }
 
+/// The key of two bytes with a number, of which the last one is chosen so that it is of a bucket: it is added to 31 times the first.
+fn key_in(bucket: u8, number: u8) -> [u8; 2] {
+    [number, bucket.wrapping_sub(number.wrapping_mul(31))]
+}
+
+/// Asks for the pair with a number in a bucket.
+pub(crate) fn get_in(alloc: Global, bucket: u8, number: u8) -> Option<Call>
+    ensures { IfSome result FitsCall }
+{
+    Some(Call::Get {
+        key: copy_of(alloc, &key_in(bucket, number))?,
+    })
+}
+
+/// Puts the pair with a number in a bucket, whose value is the number.
+pub(crate) fn put_in(alloc: Global, bucket: u8, number: u8) -> Option<Call>
+    ensures { IfSome result FitsCall }
+{
+    put_bytes(alloc, &key_in(bucket, number), &[number])
+}
+
 /// Asks for all accounts from 1 to 254.
 pub fn scan_of(alloc: Global) -> Option<Call>
     ensures { IfSome result FitsCall }

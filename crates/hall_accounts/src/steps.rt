@@ -4,7 +4,7 @@ ghost use Rattle.std.specs.Prelude.{◌≡◌, IfSome};
 ghost use Rattle.fine_model.specs.Bounds.{FitsCall};
 ghost use Rattle.hall_accounts.specs.Going.{IsAtRest, IsFree, IsGoing};
 
-use crate::accounts::{balance_of, get_of, put_of, scan_of, sum_of};
+use crate::accounts::{balance_of, get_in, get_of, put_in, put_of, scan_of, sum_of};
 use crate::transfers::{Ended, answer, commit, give_up, show};
 use epoch_room::RoomFault;
 use fine_hall::Pass;
@@ -27,12 +27,21 @@ pub struct Seat {
 pub enum Step {
     Get(u8),
     Put(u8, u8),
+    /// Asks for the pair with a number in a bucket.
+    GetIn(u8, u8),
+    /// Puts the pair with a number in a bucket. Its value is the number.
+    PutIn(u8, u8),
     Scan,
-    /// Commits, or takes back what is open.
+    /// Commits, or takes back what is open. Either end evicts all that is published.
     Commit,
+    /// The same, where so many published nodes of each held bucket stay cached.
+    CommitKeeping(usize),
     /// Commits, or leaves open what is open.
     TryCommit,
+    /// Takes back what is open, and evicts all that is published.
     Abort,
+    /// The same, where so many published nodes of each held bucket stay cached.
+    AbortKeeping(usize),
     /// Takes back what is open, seals what waits, and posts views of it.
     Show,
     /// Erases what is retired and no view names. What is open stays open.
@@ -92,11 +101,11 @@ fn told_of(ended: Ended) -> Told {
     }
 }
 
-fn end<W: Wait>(rt: &W, hall: &RoomHall<MemDisk>, seat: &mut Seat) -> Told
+fn end<W: Wait>(rt: &W, hall: &RoomHall<MemDisk>, seat: &mut Seat, keep: usize) -> Told
     requires going { IsGoing hall.now seat.old.txn seat.old.pass }
     ensures going { IsGoing hall.now seat.new.txn seat.new.pass × (seat.new.pass.number ≡ seat.old.pass.number) }
 {
-    told_of(commit(rt, &mut seat.txn, hall, &mut seat.pass, 0))
+    told_of(commit(rt, &mut seat.txn, hall, &mut seat.pass, keep))
 }
 
 /// Commits. Where that is refused, what is open stays open.
@@ -122,11 +131,11 @@ pub fn take_back(hall: &RoomHall<MemDisk>, seat: &mut Seat)
     give_up(&mut seat.txn, hall, &mut seat.pass, 0);
 }
 
-fn abort(hall: &RoomHall<MemDisk>, seat: &mut Seat) -> Told
+fn abort(hall: &RoomHall<MemDisk>, seat: &mut Seat, keep: usize) -> Told
     requires going { IsGoing hall.now seat.old.txn seat.old.pass }
     ensures going { IsGoing hall.now seat.new.txn seat.new.pass × (seat.new.pass.number ≡ seat.old.pass.number) }
 {
-    take_back(hall, seat);
+    give_up(&mut seat.txn, hall, &mut seat.pass, keep);
     Told::Aborted
 }
 
@@ -169,10 +178,14 @@ pub fn take<W: Wait>(
     match step {
         Step::Get(account) => ask(hall, seat, get_of(alloc, account)),
         Step::Put(account, balance) => ask(hall, seat, put_of(alloc, account, balance)),
+        Step::GetIn(bucket, number) => ask(hall, seat, get_in(alloc, bucket, number)),
+        Step::PutIn(bucket, number) => ask(hall, seat, put_in(alloc, bucket, number)),
         Step::Scan => ask(hall, seat, scan_of(alloc)),
-        Step::Commit => end(rt, hall, seat),
+        Step::Commit => end(rt, hall, seat, 0),
+        Step::CommitKeeping(keep) => end(rt, hall, seat, keep),
         Step::TryCommit => try_commit(rt, hall, seat),
-        Step::Abort => abort(hall, seat),
+        Step::Abort => abort(hall, seat, 0),
+        Step::AbortKeeping(keep) => abort(hall, seat, keep),
         Step::Show => show_now(rt, hall, seat),
         Step::Settle => settle_now(rt, hall, seat),
     }

@@ -2,7 +2,10 @@
 
 use epoch_room::{Counts, RoomFault};
 use hall_accounts::Act::{MakeRoom, Merge, One, TryRoom, Two};
-use hall_accounts::Step::{Abort, Commit, Get, Put, Scan, Settle, Show, TryCommit};
+use hall_accounts::Step::{
+    Abort, AbortKeeping, Commit, CommitKeeping, Get, GetIn, Put, PutIn, Scan, Settle, Show,
+    TryCommit,
+};
 use hall_accounts::Told::{
     Aborted, Balance, Committed, Merged, NoPlace, NotSettled, NotShown, Refused, Room, RoomMade,
     Settled, Shown, Stored, Sum,
@@ -147,6 +150,91 @@ fn what_is_published_is_evicted_at_the_end(rt: HostRuntime) -> Result<(), Fail> 
         ];
         let outcome = walked(&rt, rt.alloc(), plan, &table);
         assert!(rt; is_room(outcome));
+    }
+    Ok(())
+}
+
+// Walks a table whose last line is a get of the seat 1, each time with another read of the eye 5 failing: up to this one the get fails by it, and no line before it
+// does. So the get makes just so many reads of the eye, and the lines before it none.
+fn reads_at_last<W: Wait + process::Abort>(
+    rt: &W,
+    alloc: Global,
+    table: &[Line],
+    reads: u64,
+) -> Result<(), Fail> {
+    let Some(last) = table.last() else {
+        return Err("no line")?;
+    };
+    let fails = Outcome::Otherwise(Line(last.0, Refused(TxnFault::Disk)));
+    for failing in 1..reads + 3 {
+        let mut plan = FaultPlan::none(alloc);
+        plan.eye_reads.push((5, failing))?;
+        let outcome = walked(rt, alloc, plan, table);
+        assert!(rt; (outcome == fails) == (failing <= reads));
+        assert!(rt; is_room(outcome) == (reads < failing));
+    }
+    Ok(())
+}
+
+// The bucket of the account 1 has a head, which is in no part, and a leaf, which a get uses last. Both are cached as the second transaction ends, and are published.
+// The head takes one read, which is the look for it, and the leaf two: the look, and its rows.
+#[test]
+fn so_many_nodes_stay_cached(rt: HostRuntime) -> Result<(), Fail> {
+    let alloc = rt.alloc();
+    for (keep, reads) in [(0, 3), (1, 1), (2, 0)] {
+        for (end, told) in [
+            (CommitKeeping(keep), Committed(2, 2)),
+            (AbortKeeping(keep), Aborted),
+        ] {
+            let table = [
+                Line(One(Put(1, 10)), Stored),
+                Line(One(CommitKeeping(2)), Committed(1, 1)),
+                Line(Two(Show), Shown(1)),
+                Line(One(Get(1)), Balance(10)),
+                Line(One(end), told),
+                Line(One(Get(1)), Balance(10)),
+            ];
+            reads_at_last(&rt, alloc, &table, reads)?;
+        }
+    }
+    Ok(())
+}
+
+// With 33 pairs a bucket has a head, an inner node and two leaves. All four are cached as the second transaction ends, and are published. It gets a pair of the left
+// leaf and then one of the right leaf, so they go in this order: the left leaf, the head, the inner node, the right leaf. The third transaction gets a pair of one of
+// the leaves, and reads what went on its way: for the left leaf four times, for the head five times, and for the inner node and the right leaf three times each.
+#[test]
+fn the_least_recently_used_goes_first(rt: HostRuntime) -> Result<(), Fail> {
+    let alloc = rt.alloc();
+    let mut begun = Vec::new(alloc);
+    for number in 1..34u8 {
+        begun.push(Line(One(PutIn(7, number)), Stored))?;
+    }
+    for (keep, number, reads) in [
+        (4, 1, 0),
+        (3, 33, 0),
+        (3, 1, 4),
+        (2, 33, 5),
+        (1, 33, 8),
+        (0, 33, 11),
+    ] {
+        for (end, told) in [
+            (CommitKeeping(keep), Committed(2, 2)),
+            (AbortKeeping(keep), Aborted),
+        ] {
+            let table = [
+                Line(One(CommitKeeping(4)), Committed(1, 1)),
+                Line(Two(Show), Shown(1)),
+                Line(One(GetIn(7, 1)), Balance(1)),
+                Line(One(GetIn(7, 33)), Balance(33)),
+                Line(One(end), told),
+                Line(One(GetIn(7, number)), Balance(number)),
+            ];
+            let mut lines = Vec::new(alloc);
+            lines.extend_from_slice(&begun)?;
+            lines.extend_from_slice(&table)?;
+            reads_at_last(&rt, alloc, &lines, reads)?;
+        }
     }
     Ok(())
 }

@@ -2,4 +2,4 @@ use Rattle.hall_accounts.proofs.Gone.{goes}
 use Rattle.hall_accounts.proofs.steps.abort.Goals as goal
 
 pub returns : goal.returns
-returns c = let e = c.take_back.ensures in record { going = (goes c.args.hall.now c.take_back.new.seat.txn c.take_back.new.seat.pass e.idle.0 e.free, e.idle.1) }
+returns c = let e = c.give_up.ensures in record { going = (goes c.args.hall.now c.give_up.new.txn c.give_up.new.pass e.idle e.free, e.stays.0) }

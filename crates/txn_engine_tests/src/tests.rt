@@ -154,8 +154,8 @@ fn what_is_published_is_evicted_at_the_end(rt: HostRuntime) -> Result<(), Fail> 
     Ok(())
 }
 
-// Walks a table whose last line is a get of the seat 1, each time with another read of the eye 5 failing: up to this one the get fails by it, and no line before it
-// does. So the get makes just so many reads of the eye, and the lines before it none.
+// Walks a table whose last line alone is of its act, which is a get of the seat 1, once with each of the first reads of the eye 5 failing. The get fails by those up
+// to a number, and by no later one, and nothing else fails: so the get makes just so many reads, and the lines before it make none.
 fn reads_at_last<W: Wait + process::Abort>(
     rt: &W,
     alloc: Global,
@@ -176,8 +176,8 @@ fn reads_at_last<W: Wait + process::Abort>(
     Ok(())
 }
 
-// The bucket of the account 1 has a head, which is in no part, and a leaf, which a get uses last. Both are cached as the second transaction ends, and are published.
-// The head takes one read, which is the look for it, and the leaf two: the look, and its rows.
+// A bucket of one pair has a head, which is in no part, and a leaf, which a get uses last. Both are cached as the second transaction ends, and are published. The head
+// takes one read, which is the look for it, and the leaf two: the look, and its rows.
 #[test]
 fn so_many_nodes_stay_cached(rt: HostRuntime) -> Result<(), Fail> {
     let alloc = rt.alloc();
@@ -187,12 +187,12 @@ fn so_many_nodes_stay_cached(rt: HostRuntime) -> Result<(), Fail> {
             (AbortKeeping(keep), Aborted),
         ] {
             let table = [
-                Line(One(Put(1, 10)), Stored),
+                Line(One(PutIn(7, 1)), Stored),
                 Line(One(CommitKeeping(2)), Committed(1, 1)),
                 Line(Two(Show), Shown(1)),
-                Line(One(Get(1)), Balance(10)),
+                Line(One(GetIn(7, 2)), Balance(0)),
                 Line(One(end), told),
-                Line(One(Get(1)), Balance(10)),
+                Line(One(GetIn(7, 1)), Balance(1)),
             ];
             reads_at_last(&rt, alloc, &table, reads)?;
         }
@@ -225,8 +225,8 @@ fn the_least_recently_used_goes_first(rt: HostRuntime) -> Result<(), Fail> {
             let table = [
                 Line(One(CommitKeeping(4)), Committed(1, 1)),
                 Line(Two(Show), Shown(1)),
-                Line(One(GetIn(7, 1)), Balance(1)),
-                Line(One(GetIn(7, 33)), Balance(33)),
+                Line(One(GetIn(7, 2)), Balance(2)),
+                Line(One(GetIn(7, 32)), Balance(32)),
                 Line(One(end), told),
                 Line(One(GetIn(7, number)), Balance(number)),
             ];

@@ -154,7 +154,7 @@ fn what_is_published_is_evicted_at_the_end(rt: HostRuntime) -> Result<(), Fail> 
     Ok(())
 }
 
-// Walks a table whose last line alone is of its act, which is a get of the seat 1, once with each of the first reads of the eye 5 failing. The get fails by those up
+// Walks a table whose last line alone is of its act, which is a get of the seat 1, once with each of the first 15 reads of the eye 5 failing. The get fails by those up
 // to a number, and by no later one, and nothing else fails: so the get makes just so many reads, and the lines before it make none.
 fn reads_at_last<W: Wait + process::Abort>(
     rt: &W,
@@ -166,7 +166,7 @@ fn reads_at_last<W: Wait + process::Abort>(
         return Err("no line")?;
     };
     let fails = Outcome::Otherwise(Line(last.0, Refused(TxnFault::Disk)));
-    for failing in 1..reads + 3 {
+    for failing in 1..16u64 {
         let mut plan = FaultPlan::none(alloc);
         plan.eye_reads.push((5, failing))?;
         let outcome = walked(rt, alloc, plan, table);

@@ -36,8 +36,10 @@ use Rattle.partition_hold.specs.Views.{ViewValue}
 use Rattle.key_locks.specs.Locks.{HasLock, LacksLock}
 use Rattle.key_locks.proofs.Held.{get_same, get_else, not_both}
 use Rattle.txn_engine.specs.Steps.{AnswersIn, AreServed, HasNotBegun, IsRead, IsShown, ReadsIn, ReadsOr, SameBuckets, ScansIn, UnfitBy}
+use Rattle.txn_engine.specs.Reads.{DoesIn, Traces}
 use Rattle.txn_engine.specs.Txns.{AreNumbered, HasAll, HasBuckets, IsAnsweredOn, IsHeld, IsOpenOn, IsUnfitIn, KeepsCall}
 use Rattle.txn_engine.proofs.Open.{one_content}
+use Rattle.txn_engine.proofs.Reading.{plain_does, plain_finds}
 
 -- a call that is no scan is in the bucket of its key alone
 pub here_is : (j : ℕ) (c : Call) → is_scan c ≡ false → is_here j c ≡ true → bucket_of (key_of c) ≡ j
@@ -244,6 +246,17 @@ answered_in v k low locks locks' d d' c r ok of_key numbers one a = record {
   others = others_stay v k low locks locks' d d' c ok of_key numbers one a.old a.new a.there a.locks_are;
   unfit = unfit_here v k low locks locks' d d' c ok of_key numbers one a.old a.new a.there a.locks_are r a.number a.unfit;
   open_on = λ log number history shown o. answer_now v k low locks locks' d d' c ok of_key numbers one a.old a.new a.there a.locks_are log number history shown o r a.kept a.left a.fits a.used a.sound;
+}
+
+-- what it did in its buckets
+pub traced_in : (v : ViewValue) (k : ℕ) → k < 256 → (locks locks' : List (Option Cache)) (d d' : DraftValue) (c : Call) (r : Result (Unit {0}) TreeFault) → d.failed ≡ false → k ≡ bucket_of (key_of c) → AreNumbered locks → is_scan c ≡ false
+    → AnswersIn v k locks locks' d d' c r → Traces v locks locks' d d' c r
+traced_in v k low locks locks' d d' c r ok of_key numbers one a = record {
+  each = λ j b' less on h.
+      let is : j ≡ k = sym (of_key ∙ here_is j c one on) in
+      let same : a.new ≡ b' = one_content locks' k a.new b' (now_there v k low locks locks' d d' c ok of_key numbers one a.old a.new a.there a.locks_are) (subst (λ i. HasLock locks' i b') is h) in
+      (a.old, subst (λ i. HasLock locks i a.old) (sym is) a.there, subst (DoesIn v d d' c r a.old) same (plain_does v d d' c r a.old a.new one a.change));
+  finds = plain_finds locks' d d' c r one;
 }
 
 -- ---- a scan

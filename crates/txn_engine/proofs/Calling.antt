@@ -28,6 +28,7 @@ use Rattle.btree_nodes.specs.declared.fault.TreeFault.TheVariants.{Source, Unfit
 use Rattle.btree_nodes.specs.Calls.{OnCleanAnswer}
 use Rattle.txn_draft.specs.Answers.{FailsBy}
 use Rattle.txn_draft.specs.Drafts.{DraftValue, IsLost}
+use Rattle.txn_draft.specs.Standing.{StandsFor}
 use Rattle.partition_hold.specs.Sources.{Fails, IsClean}
 use Rattle.partition_hold.specs.Views.{state_of}
 use Rattle.fine_hall.specs.declared.law.Beginning.{Beginning}
@@ -46,8 +47,11 @@ use Rattle.txn_engine.specs.Faults.{after_fault, fault_of}
 use Rattle.hall_rooms.specs.Rooms.{RoomPass}
 use Rattle.hall_rooms.specs.Turning.{MeetsNone}
 use Rattle.txn_engine.specs.Steps.{IsRefusedFor, IsShown, ReadsOr}
+use Rattle.txn_engine.specs.Reads.{AreThere, ReadsBuckets, Traces, WasThere}
 use Rattle.txn_engine.specs.Turns.{ReadsFront, StaysOpen}
 use Rattle.txn_engine.specs.Txns.{CallsOr, IsOpenOn, IsOpenTxn, IsOver, KeepsCall, MeetsRead, Refuses, SaysFull, SeesCall, TakesBuckets, WantsMemory}
+use Rattle.txn_engine.proofs.Failing.{after_same}
+use Rattle.txn_engine.proofs.Reading.{does_as}
 
 -- ---- the front
 
@@ -233,3 +237,36 @@ module _ (z : TableId) (x : Beginning) (c : Call) (t t₂ t₃ : Txn) (p p₂ p�
       by (BucketFull next depth) is h clean fails = ((same_draft h.0, meets_after clean), takes_after, refuses_after why.Bucket (SaysFull c next depth) h.1)
       by (Number id) is h clean fails = ((same_draft h.0, meets_after clean), takes_after, refuses_after why.Number (IsOver c id) h.1)
       by NoMemory is h clean fails = lost_after (⊎_elim (λ (lost : IsLost t₂.draft t₃.draft). (sym lost.1, sym lost.2)) like h)
+
+  -- ---- the buckets
+
+  module _ (there : AreThere x t t₂.locks p₂) where
+    was_there : (k : ℕ) (b : Cache) → k < 256 → HasLock t₂.locks k b → WasThere x t p₃ k b
+    was_there k b low h = subst (λ q. HasLock t.locks k b ⊎ (LacksLock t.locks k × StandsFor x.log k q.published b (commits q.seen))) (sym stayed.same_known) (there k b low h)
+
+    pub reads_ok : (done : Unit {0}) → r ≡ Ok done → ReadsBuckets x c t t₃ p₃ (Ok tt)
+    reads_ok done is = let g : Traces f.before t₂.locks t₃.locks t.draft t₃.draft c (Ok tt) = subst (λ d. Traces f.before t₂.locks t₃.locks d t₃.draft c (Ok tt)) stays.draft (subst (Traces f.before t₂.locks t₃.locks t₂.draft t₃.draft c) is f.traces) in record {
+      front = f.before;
+      now = f.after;
+      later = f.later;
+      is_now = ap (λ q. q.front) f.is;
+      trees = Ok tt;
+      answer = refl;
+      each = λ k b' low on h. let b = g.each k b' low on h in (b.0, was_there k b.0 low b.1, b.2);
+      finds = g.finds;
+    }
+
+    pub reads_err : (fault : TreeFault) → r ≡ Err fault → ReadsBuckets x c t (after_fault (fault_of fault) t₃) p₃ (Err (fault_of fault))
+    reads_err fault is =
+        let g : Traces f.before t₂.locks t₃.locks t.draft t₃.draft c (Err fault) = subst (λ d. Traces f.before t₂.locks t₃.locks d t₃.draft c (Err fault)) stays.draft (subst (Traces f.before t₂.locks t₃.locks t₂.draft t₃.draft c) is f.traces) in
+        let same = after_same (fault_of fault) t₃ in record {
+          front = f.before;
+          now = f.after;
+          later = f.later;
+          is_now = ap (λ q. q.front) f.is;
+          trees = Err fault;
+          answer = refl;
+          each = λ k b' low on h. let b = g.each k b' low on (subst (λ l. HasLock l k b') same.0 h) in
+              (b.0, was_there k b.0 low b.1, does_as f.before t.draft t₃.draft (after_fault (fault_of fault) t₃).draft c fault same.1 b.0 b' b.2);
+          finds = tt;
+        }

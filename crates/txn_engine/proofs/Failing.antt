@@ -35,6 +35,17 @@ open_fails x (fault.BucketFull next depth) t p o = o
 open_fails x (fault.Number id) t p o = o
 open_fails x fault.NoMemory t p o = record { locks = o.locks; open_on = failing_on _ _ _ t.draft t.locks o.open_on }
 
+-- a fault leaves the buckets and the rows of a transaction
+pub after_same : (f : TxnFault) (t : Txn) → ((after_fault f t).locks ≡ t.locks) × ((after_fault f t).draft.rows ≡ t.draft.rows)
+after_same (fault.Conflict bucket owner) t = (refl, refl)
+after_same fault.Disk t = (refl, refl)
+after_same (fault.BadRow region at) t = (refl, refl)
+after_same (fault.BadIndex region at) t = (refl, refl)
+after_same (fault.Unfit id) t = (refl, refl)
+after_same (fault.BucketFull next depth) t = (refl, refl)
+after_same (fault.Number id) t = (refl, refl)
+after_same fault.NoMemory t = (refl, refl)
+
 -- a fault that is not want of memory leaves a transaction
 pub after_other : (f : TxnFault) (t : Txn) → (f ≡ fault.NoMemory → ⊥) → after_fault f t ≡ t
 after_other (fault.Conflict bucket owner) t other = refl

@@ -1,6 +1,7 @@
 pub mod Held
 pub mod Open
 pub mod Ending
+pub mod Reading
 pub mod Answering
 pub mod Scanning
 pub mod Taking

@@ -11,10 +11,11 @@ use Rattle.fine_model.proofs.Ordered.KeptPairs.{kept_first}
 use Rattle.node_cache.specs.Cache.{Cache}
 use Rattle.btree_nodes.specs.declared.fault.TreeFault.{TreeFault}
 use Rattle.btree_nodes.specs.declared.fault.TreeFault.TheVariants.{Unfit}
+use Rattle.btree_nodes.specs.Calls.{Reads}
 use Rattle.btree_nodes.specs.Faults.{OnFault}
 use Rattle.btree_nodes.specs.Trees.{Serves}
 use Rattle.txn_draft.specs.Drafts.{DraftValue, FitsDraft, IsAnswered}
-use Rattle.txn_draft.specs.Scans.{KeepsFound, ScanValue}
+use Rattle.txn_draft.specs.Scans.{IsGathered, KeepsFound, ScanValue}
 use Rattle.open_txn.proofs.Advanced.{still_served}
 use Rattle.partition_hold.specs.SourceLaws.{later_tells}
 use Rattle.partition_hold.specs.Sources.{IsLater, tells_rows}
@@ -22,9 +23,11 @@ use Rattle.partition_hold.specs.Views.{ViewValue}
 use Rattle.key_locks.specs.Locks.{HasLock}
 use Rattle.key_locks.proofs.Held.{get_same, get_else}
 use Rattle.txn_engine.specs.Steps.{AreRead, AreServed, GathersIn, GathersMore, GathersOr, IsRead, ScansIn, UnfitBy}
+use Rattle.txn_engine.specs.Reads.{EachWalks, GathersBelow}
 use Rattle.txn_engine.specs.Txns.{HasAll, IsUnfitIn}
 use Rattle.txn_engine.proofs.Open.{one_content}
 use Rattle.txn_engine.proofs.Ending.{less_or_at}
+use Rattle.txn_engine.proofs.Reading.{gathers_more, walks_halted, walks_more}
 
 -- ---- one bucket behind another
 
@@ -96,6 +99,22 @@ module _ (u v : ViewValue) (at : ℕ) (locks mid : List (Option Cache)) (later :
 
     pub gathered_more : (done : Unit {0}) → r ≡ Ok done → GathersMore u locks low high limit s₀ s → GathersMore u locks low high limit s₀ s'
     gathered_more done is before rows log served kept = subst (λ x. OnOk x (GathersMore v mid low high limit s s')) is one.more rows log (served_on rows log served) (before rows log served kept)
+
+    now_here : HasLock locks' at one.new
+    now_here = ap (λ l. slice_get l at) one.locks_are ∙ get_same mid at (Some one.old) (Some one.new) one.there
+
+    module _ (walks : EachWalks at u locks mid low high limit (Ok tt)) where
+      abbrev Found : Result (Unit {0}) TreeFault → Type 0
+      Found x = Reads (λ (done : Unit {0}). IsGathered one.new low high limit s.pairs s'.pairs) (λ _. Unit {0}) (λ _. Unit {0}) x
+
+      pub gathered_walks : (done : Unit {0}) → r ≡ Ok done → EachWalks (at + 1) u locks locks' low high limit (Ok tt)
+      gathered_walks done is = walks_more u v at locks mid locks' low high limit later one.old one.new one.there now_here other so_far.above one.walks walks s.pairs s'.pairs (subst Found is one.finds)
+
+      pub gathered_finds : (done : Unit {0}) → r ≡ Ok done → GathersBelow at mid low high limit s₀.pairs s.pairs → GathersBelow (at + 1) locks' low high limit s₀.pairs s'.pairs
+      gathered_finds done is f = gathers_more u v at locks mid locks' low high limit later one.old one.new one.there now_here other so_far.above one.walks walks s.pairs s'.pairs (subst Found is one.finds) s₀.pairs f
+
+      pub gathered_halt : (fault : TreeFault) → r ≡ Err fault → EachWalks 256 u locks locks' low high limit (Err fault)
+      gathered_halt fault is = walks_halted u v at locks mid locks' low high limit later one.old one.new one.there now_here other so_far.above one.walks walks fault (subst Found is one.finds)
 
     pub gathered_unfit : UnfitBy (IsUnfitIn locks' (call.Scan low high limit)) r
     gathered_unfit id is = record {

@@ -4,6 +4,7 @@ use Rattle.std.specs.Prelude.{MatchBool, OnOk, OnErr, IfErr}
 use mathlib.Core.Option.{some}
 use lib.ListN.{get_elem?}
 use Rattle.fine_places.proofs.Lists.{decide, some_same}
+use Rattle.fine_model.proofs.Histories.Goings.{buckets_on}
 use Rattle.fine_model.proofs.Trees.CallLaw.{bucket_below}
 use Rattle.fine_places.specs.History as places
 use Rattle.fine_model.specs.declared.Call.{Call}
@@ -12,6 +13,7 @@ use Rattle.fine_model.specs.Pushed.{key_of}
 use Rattle.fine_model.specs.Trees.{bucket_of}
 use Rattle.node_cache.specs.Cache.{Cache, IsResting, kept_at}
 use Rattle.txn_draft.specs.Drafts.{is_here, is_scan}
+use Rattle.txn_draft.specs.Standing.{StandsFor}
 use Rattle.txn_draft.proofs.Answered.{own_here}
 use Rattle.partition_hold.specs.Views.{state_of}
 use Rattle.fine_hall.specs.declared.law.Beginning.{Beginning}
@@ -20,18 +22,20 @@ use Rattle.fine_hall.specs.Turns.{commits, in_bucket}
 use Rattle.fine_hall.specs.Laws.{AreTurns}
 use Rattle.fine_hall.specs.Passes.{known, turns, own_turns, seen, published, found_held, HasPlace, LacksPlace}
 use Rattle.fine_hall.specs.Halls.{SeesMore, KeepsPlaces, Refreshes, FindsStale, FindsHeld, IsAhead}
+use Rattle.fine_hall.proofs.Bucket.{same_bucket}
 use Rattle.fine_hall.proofs.Seeing.{sees_on}
 use Rattle.fine_hall.proofs.Troubles.{troubles_law}
 use Rattle.key_locks.specs.Locks.{HasLock, LacksLock, AreLocksOf, HasAllBelow, StopsAt, Wants, TakesLock}
-use Rattle.key_locks.proofs.Held.{far, get_same, get_else, has_place, held_alike, not_both}
+use Rattle.key_locks.proofs.Held.{far, get_same, get_else, has_place, held_alike, near, not_both}
 use Rattle.key_locks.proofs.Gathered.{gathers_none, gathers_one}
 use Rattle.txn_engine.specs.declared.txn.Txn.{Txn}
 use Rattle.hall_rooms.specs.Rooms.{RoomPass, bucket_number}
 use Rattle.hall_rooms.specs.Turning.{MeetsNone}
+use Rattle.txn_engine.specs.Reads.{AreThere, WasThere}
 use Rattle.txn_engine.specs.Turns.{GathersBuckets, LocksOr, StopsFor, TakesFor, TakesOr}
 use Rattle.txn_engine.specs.Txns.{IsOpenOn, IsOpenTxn}
 use Rattle.txn_engine.proofs.Answering.{here_is, scan_here}
-use Rattle.txn_engine.proofs.Open.{open_gathered, open_seen}
+use Rattle.txn_engine.proofs.Open.{one_content, open_gathered, open_seen}
 
 -- ---- the buckets
 
@@ -182,6 +186,29 @@ module _ (x : Beginning) (c : Call) (t t' : Txn) (p p₁ : RoomPass) (before : A
       looked : (b : Bool) → MatchBool b (Refreshes state_of x p₁ p₂) (FindsStale p₁ p₂) → SeesMore p₁ p₂ × ((known p₂).held ≡ (known p₁).held) × (found_held p₂ ≡ found_held p₁)
       looked true r = (r.sees, r.same_held, r.found)
       looked false r = (r.sees, r.same_held, r.found)
+
+-- what was taken stands for all that the pass saw, behind the mailbox too
+pub there_for : (x : Beginning) (c : Call) (t : Txn) (locks' : List (Option Cache)) (p p₁ p₂ : RoomPass) → IsOpenTxn x t p → AreLocksOf locks' p₁ → TakesFor x c t.locks locks' p p₁ → (b : Bool) → MatchBool b (Refreshes state_of x p₁ p₂) (FindsStale p₁ p₂) → AreThere x t locks' p₂
+there_for x c t locks' p p₁ p₂ o are takes b looks j y low h = by (o.locks j low)
+  where
+    sees : (b : Bool) → MatchBool b (Refreshes state_of x p₁ p₂) (FindsStale p₁ p₂) → SeesMore p₁ p₂
+    sees true r = r.sees
+    sees false r = r.sees
+
+    on : IsBucketFor bucket_number kept_at IsResting x.log j (published p₁) y (seen p₁) → StandsFor x.log j (published p₂) y (seen p₂)
+    on stands = let more = sees b looks in
+        buckets_on bucket_number kept_at IsResting x.log j (published p₁) (published p₂) y (seen p₂) more.no_earlier
+        (same_bucket bucket_number kept_at IsResting x j (published p₁) y (seen p₁) (seen p₂) (more.kept j (near j low) (has_place locks' p₁ j y low are h)) stands)
+
+    by : (LacksLock t.locks j × LacksPlace p j) ⊎ (((a : Cache) × HasLock t.locks j a) × HasPlace p j) → WasThere x t p₂ j y
+    by (inl none) = inr (
+      none.0,
+      ⊎_elim
+          (λ (was : HasLock t.locks j y). absurd (not_both t.locks j y none.0 was))
+          (λ (new : IsBucketFor bucket_number kept_at IsResting x.log j (published p₁) y (seen p₁)). on new)
+          (takes.gathers.stands j y low h),
+    )
+    by (inr had) = inl (subst (HasLock t.locks j) (one_content locks' j had.0.0 y (takes.gathers.kept j had.0.0 had.0.1) h) had.0.1)
 
 -- ---- a set that was looked into
 

@@ -17,16 +17,17 @@ use Rattle.fine_model.specs.Trees.{IsSound}
 use Rattle.node_cache.specs.Cache.{Cache}
 use Rattle.btree_nodes.specs.declared.fault.TreeFault.{TreeFault}
 use Rattle.btree_nodes.specs.declared.fault.TreeFault.TheVariants.{Source, Unfit, BucketFull, Number, NoMemory}
-use Rattle.btree_nodes.specs.Calls.{IsFirstUnfit, IsFirstUnfitBetween}
+use Rattle.btree_nodes.specs.Calls.{IsFirstUnfit, IsFirstUnfitBetween, Reads}
 use Rattle.btree_nodes.specs.Faults.{OnFault}
 use Rattle.btree_nodes.specs.Trees.{Holds, Serves}
 use Rattle.txn_draft.specs.Answers.{AnswersSoundly, LeavesDraft}
 use Rattle.txn_draft.specs.Drafts.{DraftValue, FitsDraft, IsAnswered, IsLost, Keeps, is_here}
-use Rattle.txn_draft.specs.Scans.{KeepsFound, ScanValue}
+use Rattle.txn_draft.specs.Scans.{IsGathered, KeepsFound, ScanValue}
 use Rattle.txn_draft.specs.Uses.{IsUsed, UsedAfter}
 use Rattle.partition_hold.specs.Sources.{tells_rows}
 use Rattle.partition_hold.specs.Views.{ViewValue}
 use Rattle.key_locks.specs.Locks.{HasLock, LacksLock}
+use Rattle.txn_engine.specs.Reads.{ChangesIn, OnlyWalks}
 use Rattle.txn_engine.specs.Txns.{IsOpenOn, IsOver, IsUnfitIn, KeepsCall, SaysFull}
 
 -- what an answer says of the node that it names as unfit
@@ -45,6 +46,7 @@ pub record AnswersIn (v : ViewValue) (k : ℕ) (locks locks' : List (Option Cach
   pub left : IfErr r (LeavesDraft d d')
   pub number : new.bucket ≡ old.bucket
   pub unfit : UnfitBy (IsFirstUnfit new (key_of c)) r
+  pub change : ChangesIn v d d' c r old new
   pub fits : OnOk r (FitsDraft d → FitsDraft d')
   pub used : (low : ℕ) (taken : Cache) → IsUsed low taken old d.rows → low ≤ v.upto → UsedAfter low taken new d'.rows r
   pub sound : (rows : List Row) → Serves (tells_rows v) old rows → IsAnswered rows d → Holds old rows d.rows → AnswersSoundly rows c d d' new r
@@ -79,6 +81,8 @@ pub record GathersIn (v v' : ViewValue) (k : ℕ) (locks locks' : List (Option C
   pub there : HasLock locks k old
   pub locks_are : locks' ≡ slice_set locks k (Some new)
   pub read : IsRead v v' old new
+  pub walks : OnlyWalks v low high limit old new
+  pub finds : Reads (λ done. IsGathered new low high limit s.pairs s'.pairs) (λ _. Unit {0}) (λ _. Unit {0}) r
   pub more : OnOk r (GathersMore v locks low high limit s s')
   pub unfit : UnfitBy (IsFirstUnfitBetween new low high limit) r
   pub cause : IfErr r (λ fault. (rows log : List Row) → AreServed v rows log locks → OnFault fault (λ _. Unit {0}) (λ _. ⊥) (Unit {0}))

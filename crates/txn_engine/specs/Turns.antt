@@ -16,6 +16,7 @@ use Rattle.txn_engine.specs.declared.txn.Txn.{Txn}
 use Rattle.hall_rooms.specs.Rooms.{RoomPass, bucket_number}
 use Rattle.hall_rooms.specs.Turning.{MeetsNone}
 use Rattle.txn_engine.specs.Txns.{FoundLast, HasBuckets, IsOpenTxn, SeesCall, StopsBefore, TakesBuckets}
+use Rattle.txn_engine.specs.Reads.{Traces}
 use Rattle.txn_engine.specs.Steps.{ReadsIn}
 
 -- buckets were gathered
@@ -66,3 +67,4 @@ pub record ReadsFront (c : Call) (t t' : Txn) (p p' : RoomPass) (r : Result (Uni
   pub clean : OnCleanAnswer r (IsClean before after)
   pub fails : IfErr r (FailsBy (λ failed. Fails before failed after))
   pub reads : ReadsIn before t.locks t'.locks t.draft t'.draft c r
+  pub traces : Traces before t.locks t'.locks t.draft t'.draft c r

@@ -1,6 +1,6 @@
 //! Calls of a transaction.
 
-ghost use Rattle.std.specs.Prelude.{◌≡◌, ◌<◌, true, false, IfErr, MatchBool};
+ghost use Rattle.std.specs.Prelude.{◌≡◌, ◌<◌, true, false, IfErr, MatchBool, OnOk};
 ghost use Rattle.fine_model.specs.Bounds.{FitsCall};
 ghost use Rattle.partition_hold.specs.Views.{state_of};
 ghost use Rattle.txn_draft.specs.Drafts.{is_scan};
@@ -9,6 +9,7 @@ ghost use Rattle.node_cache.specs.Cache.{Cache};
 ghost use Rattle.key_locks.specs.Locks.{AreLocksOf, HasLock, LacksLock};
 ghost use Rattle.hall_rooms.specs.Rooms.{IsRoomPass, beginning_of};
 ghost use Rattle.txn_engine.specs.Txns.{CallsOr, HasBuckets, IsOpenTxn, SeesCall, StaysFailed, is_conflict, wants_memory};
+ghost use Rattle.txn_engine.specs.Reads.{AreThere, ReadsBuckets};
 ghost use Rattle.txn_engine.specs.Turns.{LocksOr, ReadsFront, TakesOr};
 ghost use Rattle.txn_engine.specs.Faults.{after_fault, fault_of, source_fault};
 
@@ -108,6 +109,7 @@ impl Txn {
         requires call { FitsCall call.now }
         ensures pass { IsRoomPass hall.now pass.new × (pass.new.number ≡ pass.old.number) }
         ensures takes { TakesOr (beginning_of hall.now) call.now self.old self.new pass.old pass.new result }
+        ensures there { OnOk result (AreThere (beginning_of hall.now) self.old self.new.locks pass.new) }
     {
         if let Err(conflict) = take_buckets(&mut self.locks, hall, pass, call) {
             return Err(conflict);
@@ -178,6 +180,7 @@ impl Txn {
         ensures sees { SeesCall (beginning_of hall.now) pass.old pass.new }
         ensures answer { CallsOr (beginning_of hall.now) call.now self.old self.new pass.old pass.new result }
         ensures ahead { self.old.draft.failed ≡ false → is_conflict result ≡ false → IsAhead state_of (beginning_of hall.now) pass.new }
+        ensures reads { self.old.draft.failed ≡ false → is_conflict result ≡ false → ReadsBuckets (beginning_of hall.now) call.now self.old self.new pass.new result }
     {
         if self.draft.failed() {
             return Err(TxnFault::NoMemory);

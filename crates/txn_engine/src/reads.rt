@@ -10,6 +10,7 @@ ghost use Rattle.txn_draft.specs.Answers.{FailsBy};
 ghost use Rattle.txn_draft.specs.Drafts.{is_scan};
 ghost use Rattle.partition_hold.specs.Sources.{Fails, IsClean, IsLater};
 ghost use Rattle.key_locks.specs.Locks.{HasLock};
+ghost use Rattle.txn_engine.specs.Reads.{Traces};
 ghost use Rattle.txn_engine.specs.Steps.{AnswersIn, ReadsIn};
 ghost use Rattle.txn_engine.specs.Txns.{HasBuckets, AreNumbered};
 
@@ -79,6 +80,7 @@ pub(crate) fn read<E: LogEye>(
     ensures clean { OnCleanAnswer result (IsClean front.old front.new) }
     ensures fails { IfErr result (FailsBy (λ failed. Fails front.old failed front.new)) }
     ensures reads { ReadsIn front.old locks.old locks.new draft.old draft.new call.now result }
+    ensures traces { Traces front.old locks.old locks.new draft.old draft.new call.now result }
 {
     match call {
         Call::Scan { low, high, limit } => scan_all(

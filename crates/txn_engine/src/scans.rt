@@ -7,6 +7,7 @@ ghost use Rattle.btree_nodes.specs.Calls.{OnCleanAnswer};
 ghost use Rattle.txn_draft.specs.Answers.{FailsBy};
 ghost use Rattle.partition_hold.specs.Sources.{Fails, IsClean, IsLater};
 ghost use Rattle.key_locks.specs.Locks.{HasLock};
+ghost use Rattle.txn_engine.specs.Reads.{EachWalks, GathersBelow, Traces};
 ghost use Rattle.txn_engine.specs.Steps.{GathersIn, GathersOr, ScansIn};
 ghost use Rattle.txn_engine.specs.Txns.{HasAll};
 
@@ -62,6 +63,8 @@ fn gather_all<E: LogEye>(
     ensures clean { OnCleanAnswer result (IsClean front.old front.new) }
     ensures fails { IfErr result (FailsBy (λ failed. Fails front.old failed front.new)) }
     ensures gathers { GathersOr front.old front.new locks.old locks.new low.now high.now limit scan.old scan.new result }
+    ensures walks { EachWalks 256 front.old locks.old locks.new low.now high.now limit result }
+    ensures finds { OnOk result (GathersBelow 256 locks.new low.now high.now limit scan.old.pairs scan.new.pairs) }
 {
     for bucket in 0..BUCKETS {
         if let Err(fault) = gather_in(scan, locks, front, bucket, low, high, limit) {
@@ -89,6 +92,7 @@ pub(crate) fn scan_all<E: LogEye>(
     ensures clean { OnCleanAnswer result (IsClean front.old front.new) }
     ensures fails { IfErr result (FailsBy (λ failed. Fails front.old failed front.new)) }
     ensures scans { ScansIn front.old front.new locks.old locks.new draft.old draft.new call.now result }
+    ensures traces { Traces front.old locks.old locks.new draft.old draft.new call.now result }
 {
     let mut scan = RangeScan::new(alloc);
     if let Err(fault) = gather_all(&mut scan, locks, front, low, high, limit) {

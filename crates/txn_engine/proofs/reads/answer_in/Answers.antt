@@ -1,6 +1,7 @@
 use denote.Param.Send.{sendable}
 use Rattle.std.proofs.Common.{Some, ap, refl, rules, sym, ◌∙◌}
 use Rattle.hall_rooms.proofs.Crossing.{bucket_send}
+use Rattle.txn_engine.proofs.Reading.{changes}
 use Rattle.txn_engine.proofs.reads.answer_in.Goals as goal
 
 pub bucket-requires-send-B : goal.bucket-requires-send-B
@@ -18,6 +19,7 @@ returns-clause-answers g c =
       left = e.left;
       number = e.number;
       unfit = search rules;
+      change = changes c.args.front.now c.args.draft.now c.answer.new.self c.args.call.now _ c.answer.result c.bucket-2.result.now c.answer.new.bucket e.change;
       fits = e.fits;
       used = e.used;
       sound = e.sound;

@@ -1,7 +1,7 @@
 use Rattle.std.proofs.Common.{◌∙◌, ap}
 use Rattle.fine_model.specs.Trees.{bucket_of}
 use Rattle.txn_draft.specs.Drafts.{is_scan}
-use Rattle.txn_engine.proofs.Answering.{all_buckets, answered_in, key_bucket, plain_call, scanned_in}
+use Rattle.txn_engine.proofs.Answering.{all_buckets, answered_in, key_bucket, plain_call, scanned_in, traced_in}
 use Rattle.txn_engine.proofs.reads.read.Goals as goal
 
 pub scan_all-requires-clause-held : goal.scan_all-requires-clause-held
@@ -27,5 +27,7 @@ returns-in_default g c = let e = c.answer_in.ensures in record {
   clean = e.clean;
   fails = e.fails;
   reads = answered_in c.args.front.now c.bucket_of.result c.bucket_of.ensures.range c.args.locks.now c.answer_in.new.locks c.args.draft.now c.answer_in.new.draft c.args.call.now c.answer_in.result c.requires.open
+      (c.bucket_of.ensures.value ∙ ap bucket_of c.key_of.ensures) c.requires.held.1 (plain_call c.args.call.now (λ low high limit is. c.in_default.not-Scan low high limit is)) e.answers;
+  traces = traced_in c.args.front.now c.bucket_of.result c.bucket_of.ensures.range c.args.locks.now c.answer_in.new.locks c.args.draft.now c.answer_in.new.draft c.args.call.now c.answer_in.result c.requires.open
       (c.bucket_of.ensures.value ∙ ap bucket_of c.key_of.ensures) c.requires.held.1 (plain_call c.args.call.now (λ low high limit is. c.in_default.not-Scan low high limit is)) e.answers;
 }

@@ -1,8 +1,10 @@
-use Rattle.std.proofs.Common.{◌≡◌, ◌+◌, ◌<◌, ◌≤◌, ◌∙◌, refl, Err, arith}
+use Rattle.std.proofs.Common.{◌≡◌, ◌+◌, ◌<◌, ◌≤◌, ◌∙◌, refl, subst, Ok, Err, arith}
 use Rattle.open_txn.proofs.Advanced.{clean_from, fails_from}
 use Rattle.partition_hold.specs.SourceLaws.{later_itself, later_on, clean_itself, clean_on, fails_earlier}
 use Rattle.partition_hold.specs.Sources.{Fails, IsClean}
-use Rattle.txn_engine.proofs.Scanning.{gathered_cause, gathered_more, gathered_unfit, has_here, ok_names_none, read_more, read_none, read_to_end}
+use Rattle.txn_engine.specs.Reads.{EachWalks, GathersBelow}
+use Rattle.txn_engine.proofs.Reading.{gathers_none, walks_none}
+use Rattle.txn_engine.proofs.Scanning.{gathered_cause, gathered_finds, gathered_halt, gathered_more, gathered_unfit, gathered_walks, has_here, ok_names_none, read_more, read_none, read_to_end}
 use Rattle.txn_engine.proofs.scans.gather_all.Goals as goal
 
 pub loop-bucket-init : goal.loop-bucket-init
@@ -11,6 +13,8 @@ loop-bucket-init g c = record {
   clean = clean_itself c.args.front.now;
   next = c.requires.next;
   read = read_none c.args.front.now c.args.locks.now;
+  walks = walks_none c.args.front.now c.args.locks.now c.args.low.now c.args.high.now c.args.limit;
+  finds = gathers_none c.args.locks.now c.args.low.now c.args.high.now c.args.limit c.args.scan.now.pairs;
   more = λ rows log served kept. kept;
 }
 
@@ -33,6 +37,10 @@ loop-bucket-preserved g c =
       next = e.next;
       read = read_more c.args.front.now c.loop-bucket.front c.loop-bucket.bucket c.args.locks.now c.loop-bucket.locks inv.later inv.read c.requires.held c.gather_in.new.front low c.gather_in.new.locks c.args.low.now c.args.high.now c.args.limit
           c.args.scan.now c.loop-bucket.scan c.gather_in.new.scan _ e.later e.gathers;
+      walks = gathered_walks c.args.front.now c.loop-bucket.front c.loop-bucket.bucket c.args.locks.now c.loop-bucket.locks inv.later inv.read c.requires.held c.gather_in.new.front low c.gather_in.new.locks c.args.low.now c.args.high.now c.args.limit
+          c.args.scan.now c.loop-bucket.scan c.gather_in.new.scan _ e.later e.gathers inv.walks _ refl;
+      finds = gathered_finds c.args.front.now c.loop-bucket.front c.loop-bucket.bucket c.args.locks.now c.loop-bucket.locks inv.later inv.read c.requires.held c.gather_in.new.front low c.gather_in.new.locks c.args.low.now c.args.high.now c.args.limit
+          c.args.scan.now c.loop-bucket.scan c.gather_in.new.scan _ e.later e.gathers inv.walks _ refl inv.finds;
       more = gathered_more c.args.front.now c.loop-bucket.front c.loop-bucket.bucket c.args.locks.now c.loop-bucket.locks inv.later inv.read c.requires.held c.gather_in.new.front low c.gather_in.new.locks c.args.low.now c.args.high.now c.args.limit
           c.args.scan.now c.loop-bucket.scan c.gather_in.new.scan _ e.later e.gathers _ refl inv.more;
     }
@@ -46,6 +54,8 @@ returns g c =
       clean = inv.clean;
       fails = tt;
       gathers = record { read = read_to_end c.loop-bucket.bucket c.args.front.now c.loop-bucket.front c.args.locks.now c.loop-bucket.locks most inv.later inv.read; next = inv.next ∙ all; more = inv.more; unfit = λ id is. absurd (ok_names_none id is); cause = tt };
+      walks = subst (λ n. EachWalks n c.args.front.now c.args.locks.now c.loop-bucket.locks c.args.low.now c.args.high.now c.args.limit (Ok tt)) all inv.walks;
+      finds = subst (λ n. GathersBelow n c.loop-bucket.locks c.args.low.now c.args.high.now c.args.limit c.args.scan.now.pairs c.loop-bucket.scan.pairs) all inv.finds;
     }
 
 pub returns-in-Err : goal.returns-in-Err
@@ -70,4 +80,7 @@ returns-in-Err g c =
         cause = gathered_cause c.args.front.now c.loop-bucket.front c.loop-bucket.bucket c.args.locks.now c.loop-bucket.locks inv.later inv.read c.requires.held now low c.gather_in.new.locks c.args.low.now c.args.high.now c.args.limit
             c.args.scan.now c.loop-bucket.scan c.gather_in.new.scan (Err c.in-Err.fault) e.later e.gathers c.in-Err.fault refl;
       };
+      walks = gathered_halt c.args.front.now c.loop-bucket.front c.loop-bucket.bucket c.args.locks.now c.loop-bucket.locks inv.later inv.read c.requires.held now low c.gather_in.new.locks c.args.low.now c.args.high.now c.args.limit
+          c.args.scan.now c.loop-bucket.scan c.gather_in.new.scan (Err c.in-Err.fault) e.later e.gathers inv.walks c.in-Err.fault refl;
+      finds = tt;
     }

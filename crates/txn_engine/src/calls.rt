@@ -164,6 +164,10 @@ impl Txn {
     /// that is over its bounds. After each of these it may be tried again. Unless a conflict refused it, or memory had run out before it, the pass's front then shows
     /// what the pass saw, up to an epoch not below the published one that it knows [`ahead`]. `NoMemory` leaves the transaction failed, and no other answer does [`failed`]: each
     /// later call answers it too, and changes nothing, until the transaction is aborted.
+    ///
+    /// Whatever the log is, and again unless a conflict refused it or memory had run out before it, each bucket of the call is what the call made of the one that the transaction
+    /// held or took [`reads`]: nodes on the call's way were loaded through the front, and then it was answered on what the bucket gives, and its rows were pushed on that. A scan only
+    /// loads, and answers the first pairs that the buckets give then. Each refusal but `NoMemory` only loads, and has its cause in what the bucket gives then.
     pub fn call<D: LogDisk>(
         &mut self,
         hall: &RoomHall<D>,

@@ -1,9 +1,12 @@
 -- Want of memory, and what it leaves.
 use Rattle.std.proofs.Common.{◌≡◌, ⊎_elim, ℕ, true, false, true≢false, List, Option, Result, Ok, Err, refl, sym, ap, ◌∙◌, le_refl}
 use Rattle.fine_model.specs.declared.Call.{Call}
+use Rattle.fine_model.specs.declared.FetchFault.TheVariants as fetch_fault
 use Rattle.fine_model.specs.declared.law.Origin.{Origin}
 use Rattle.fine_model.specs.History.{Commit}
 use Rattle.node_cache.specs.Cache.{Cache}
+use Rattle.btree_nodes.specs.declared.fault.TreeFault.{TreeFault}
+use Rattle.btree_nodes.specs.declared.fault.TreeFault.TheVariants.{Source, Unfit, BucketFull, Number, NoMemory}
 use Rattle.txn_draft.specs.Drafts.{DraftValue, is_scan}
 use Rattle.partition_hold.specs.Views.{state_of}
 use Rattle.fine_hall.specs.declared.law.Beginning.{Beginning}
@@ -13,9 +16,9 @@ use Rattle.hall_rooms.specs.Rooms.{RoomPass}
 use Rattle.txn_engine.specs.declared.txn.Txn.{Txn}
 use Rattle.txn_engine.specs.declared.txn.TxnFault.{TxnFault}
 use Rattle.txn_engine.specs.declared.txn.TxnFault.TheVariants as fault
-use Rattle.txn_engine.specs.Faults.{after_fault}
+use Rattle.txn_engine.specs.Faults.{after_fault, fault_of}
 use Rattle.txn_engine.specs.Laws.{RepliesLaw}
-use Rattle.txn_engine.specs.Txns.{CallsOr, IsOpenOn, IsOpenTxn, KeepsCall, SeesCall, StaysFailed, wants_memory}
+use Rattle.txn_engine.specs.Txns.{CallsOr, IsOpenOn, IsOpenTxn, KeepsCall, SeesCall, StaysFailed, is_conflict, wants_memory}
 use Rattle.txn_engine.proofs.Answering.{either, lost_held}
 
 -- a draft that is given up is open, with what undoing restores
@@ -34,6 +37,17 @@ open_fails x (fault.Unfit id) t p o = o
 open_fails x (fault.BucketFull next depth) t p o = o
 open_fails x (fault.Number id) t p o = o
 open_fails x fault.NoMemory t p o = record { locks = o.locks; open_on = failing_on _ _ _ t.draft t.locks o.open_on }
+
+-- a fault of a tree is no conflict
+pub no_conflict : (f : TreeFault) → is_conflict (Err (fault_of f)) ≡ false
+no_conflict (Source fetch_fault.Failed) = refl
+no_conflict (Source (fetch_fault.BadRow region at)) = refl
+no_conflict (Source (fetch_fault.BadIndex region at)) = refl
+no_conflict (Source fetch_fault.NoMemory) = refl
+no_conflict (Unfit id) = refl
+no_conflict (BucketFull next depth) = refl
+no_conflict (Number id) = refl
+no_conflict NoMemory = refl
 
 -- a fault leaves the buckets and the rows of a transaction
 pub after_same : (f : TxnFault) (t : Txn) → ((after_fault f t).locks ≡ t.locks) × ((after_fault f t).draft.rows ≡ t.draft.rows)

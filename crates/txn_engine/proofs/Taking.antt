@@ -187,28 +187,38 @@ module _ (x : Beginning) (c : Call) (t t' : Txn) (p p₁ : RoomPass) (before : A
       looked true r = (r.sees, r.same_held, r.found)
       looked false r = (r.sees, r.same_held, r.found)
 
--- what was taken stands for all that the pass saw, behind the mailbox too
-pub there_for : (x : Beginning) (c : Call) (t : Txn) (locks' : List (Option Cache)) (p p₁ p₂ : RoomPass) → IsOpenTxn x t p → AreLocksOf locks' p₁ → TakesFor x c t.locks locks' p p₁ → (b : Bool) → MatchBool b (Refreshes state_of x p₁ p₂) (FindsStale p₁ p₂) → AreThere x t locks' p₂
-there_for x c t locks' p p₁ p₂ o are takes b looks j y low h = by (o.locks j low)
+-- each bucket of a set was held, or was taken and stands for all that the pass saw
+there_from : (x : Beginning) (t : Txn) (locks' : List (Option Cache)) (p p' : RoomPass) → IsOpenTxn x t p → ((k : ℕ) (b : Cache) → HasLock t.locks k b → HasLock locks' k b)
+    → ((k : ℕ) (b : Cache) → k < 256 → HasLock locks' k b → HasLock t.locks k b ⊎ StandsFor x.log k (published p') b (seen p')) → AreThere x t locks' p'
+there_from x t locks' p p' o kept stands k b low h = by (o.locks k low)
+  where
+    by : (LacksLock t.locks k × LacksPlace p k) ⊎ (((a : Cache) × HasLock t.locks k a) × HasPlace p k) → WasThere x t p' k b
+    by (inl none) = ⊎_elim (λ (was : HasLock t.locks k b). inl was) (λ (new : StandsFor x.log k (published p') b (seen p')). inr (none.0, new)) (stands k b low h)
+    by (inr had) = inl (subst (HasLock t.locks k) (one_content locks' k had.0.0 b (kept k had.0.0 had.0.1) h) had.0.1)
+
+-- behind the mailbox
+pub there_for : (x : Beginning) (c : Call) (t : Txn) (locks' : List (Option Cache)) (p p₁ p₂ : RoomPass) → IsOpenTxn x t p → AreLocksOf locks' p₁ → TakesFor x c t.locks locks' p p₁ → (b : Bool) → MatchBool b (Refreshes state_of x p₁ p₂) (FindsStale p₁ p₂)
+    → AreThere x t locks' p₂
+there_for x c t locks' p p₁ p₂ o are takes b looks = there_from x t locks' p p₂ o takes.gathers.kept (λ k y low h. on k y low h (takes.gathers.stands k y low h))
   where
     sees : (b : Bool) → MatchBool b (Refreshes state_of x p₁ p₂) (FindsStale p₁ p₂) → SeesMore p₁ p₂
     sees true r = r.sees
     sees false r = r.sees
 
-    on : IsBucketFor bucket_number kept_at IsResting x.log j (published p₁) y (seen p₁) → StandsFor x.log j (published p₂) y (seen p₂)
-    on stands = let more = sees b looks in
-        buckets_on bucket_number kept_at IsResting x.log j (published p₁) (published p₂) y (seen p₂) more.no_earlier
-        (same_bucket bucket_number kept_at IsResting x j (published p₁) y (seen p₁) (seen p₂) (more.kept j (near j low) (has_place locks' p₁ j y low are h)) stands)
+    on : (k : ℕ) (y : Cache) → k < 256 → HasLock locks' k y → HasLock t.locks k y ⊎ IsBucketFor bucket_number kept_at IsResting x.log k (published p₁) y (seen p₁) → HasLock t.locks k y ⊎ StandsFor x.log k (published p₂) y (seen p₂)
+    on k y low h (inl was) = inl was
+    on k y low h (inr new) = let more = sees b looks in
+        inr (buckets_on bucket_number kept_at IsResting x.log k (published p₁) (published p₂) y (seen p₂) more.no_earlier
+        (same_bucket bucket_number kept_at IsResting x k (published p₁) y (seen p₁) (seen p₂) (more.kept k (near k low) (has_place locks' p₁ k y low are h)) new))
 
-    by : (LacksLock t.locks j × LacksPlace p j) ⊎ (((a : Cache) × HasLock t.locks j a) × HasPlace p j) → WasThere x t p₂ j y
-    by (inl none) = inr (
-      none.0,
-      ⊎_elim
-          (λ (was : HasLock t.locks j y). absurd (not_both t.locks j y none.0 was))
-          (λ (new : IsBucketFor bucket_number kept_at IsResting x.log j (published p₁) y (seen p₁)). on new)
-          (takes.gathers.stands j y low h),
-    )
-    by (inr had) = inl (subst (HasLock t.locks j) (one_content locks' j had.0.0 y (takes.gathers.kept j had.0.0 had.0.1) h) had.0.1)
+-- and where a conflict came
+pub there_stopped : (x : Beginning) (c : Call) (t : Txn) (locks' : List (Option Cache)) (p p₁ : RoomPass) (conflict : Conflict) → IsOpenTxn x t p → StopsFor x c t.locks locks' p p₁ conflict → AreThere x t locks' p₁
+there_stopped x c t locks' p p₁ conflict o s = there_from x t locks' p p₁ o s.gathers.kept (λ k y low h. on k y (s.gathers.stands k y low h))
+  where
+    on : (k : ℕ) (y : Cache) → HasLock t.locks k y ⊎ IsBucketFor bucket_number kept_at IsResting x.log k (published s.between) y (seen s.between) → HasLock t.locks k y ⊎ StandsFor x.log k (published p₁) y (seen p₁)
+    on k y (inl was) = inl was
+    on k y (inr new) = let f = s.finds in inr (subst (λ n. IsBucketFor bucket_number kept_at IsResting x.log k n y (seen p₁)) (sym f.places.same_published)
+        (subst (IsBucketFor bucket_number kept_at IsResting x.log k (published s.between) y) (sym (ap commits f.places.same_turns)) new))
 
 -- ---- a set that was looked into
 

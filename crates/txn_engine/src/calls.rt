@@ -1,6 +1,6 @@
 //! Calls of a transaction.
 
-ghost use Rattle.std.specs.Prelude.{◌≡◌, ◌<◌, true, false, IfErr, MatchBool, OnOk};
+ghost use Rattle.std.specs.Prelude.{◌≡◌, ◌<◌, true, false, IfErr, MatchBool};
 ghost use Rattle.fine_model.specs.Bounds.{FitsCall};
 ghost use Rattle.partition_hold.specs.Views.{state_of};
 ghost use Rattle.txn_draft.specs.Drafts.{is_scan};
@@ -109,7 +109,7 @@ impl Txn {
         requires call { FitsCall call.now }
         ensures pass { IsRoomPass hall.now pass.new × (pass.new.number ≡ pass.old.number) }
         ensures takes { TakesOr (beginning_of hall.now) call.now self.old self.new pass.old pass.new result }
-        ensures there { OnOk result (AreThere (beginning_of hall.now) self.old self.new.locks pass.new) }
+        ensures there { AreThere (beginning_of hall.now) self.old self.new.locks pass.new }
     {
         if let Err(conflict) = take_buckets(&mut self.locks, hall, pass, call) {
             return Err(conflict);
@@ -167,7 +167,8 @@ impl Txn {
     ///
     /// Whatever the log is, and again unless a conflict refused it or memory had run out before it, each bucket of the call is what the call made of the one that the transaction
     /// held or took [`reads`]: nodes on the call's way were loaded through the front, and then it was answered on what the bucket gives, and its rows were pushed on that. A scan only
-    /// loads, and answers the first pairs that the buckets give then. Each refusal but `NoMemory` only loads, and has its cause in what the bucket gives then.
+    /// loads, and answers the first pairs that the buckets give then. Each refusal but `NoMemory` only loads; `Unfit`, `BucketFull` and `Number` have their cause in what the bucket gives then. A
+    /// conflict leaves all buckets as they were held or taken [`leaves`].
     pub fn call<D: LogDisk>(
         &mut self,
         hall: &RoomHall<D>,
@@ -184,6 +185,7 @@ impl Txn {
         ensures sees { SeesCall (beginning_of hall.now) pass.old pass.new }
         ensures answer { CallsOr (beginning_of hall.now) call.now self.old self.new pass.old pass.new result }
         ensures ahead { self.old.draft.failed ≡ false → is_conflict result ≡ false → IsAhead state_of (beginning_of hall.now) pass.new }
+        ensures leaves { self.old.draft.failed ≡ false → is_conflict result ≡ true → AreThere (beginning_of hall.now) self.old self.new.locks pass.new }
         ensures reads { self.old.draft.failed ≡ false → is_conflict result ≡ false → ReadsBuckets (beginning_of hall.now) call.now self.old self.new pass.new result }
     {
         if self.draft.failed() {

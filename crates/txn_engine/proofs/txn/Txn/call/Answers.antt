@@ -2,9 +2,9 @@ use Rattle.std.proofs.Common.{Ok, Err, ap, refl, subst, sym, true≢false, ◌�
 use Rattle.hall_rooms.specs.Rooms.{beginning_of}
 use Rattle.txn_engine.specs.Faults.{after_fault}
 use Rattle.txn_engine.specs.Reads.{ReadsBuckets}
-use Rattle.txn_engine.specs.Txns.{CallsOr, IsOpenTxn}
+use Rattle.txn_engine.specs.Txns.{CallsOr, IsOpenTxn, is_conflict}
 use Rattle.txn_engine.proofs.Calling.{ahead_after, answer_err, answer_ok, open_after, reads_err, reads_ok, same_number, sees_after, still_pass}
-use Rattle.txn_engine.proofs.Failing.{answer_failed, not_gone, open_fails, sees_still, still_failed}
+use Rattle.txn_engine.proofs.Failing.{answer_failed, no_conflict, not_gone, open_fails, sees_still, still_failed}
 use Rattle.txn_engine.proofs.txn.Txn.call.Goals as goal
 
 -- ---- it was failed
@@ -111,3 +111,15 @@ returns-in-Err-read_for-clause-reads g c = let e = c.in_default.ensures in λ ok
     subst (λ t. ReadsBuckets (beginning_of c.args.hall.now) c.args.call.now c.args.self.now t c.read_for.new.pass (Err c.refused.result)) (sym c.refused.ensures.after)
     (subst (λ f. ReadsBuckets (beginning_of c.args.hall.now) c.args.call.now c.args.self.now (after_fault f c.read_for.new.self) c.read_for.new.pass (Err f)) (sym c.refused.ensures.fault)
     (reads_err c.args.hall.now.table.shared.table_id (beginning_of c.args.hall.now) c.args.call.now c.args.self.now c.take_for.new.self c.read_for.new.self c.args.pass.now c.take_for.new.pass c.read_for.new.pass e.pass.0 e.pass.1 e.takes.0 e.takes.1 e.takes.2 (Err c.in-Err-read_for.fault) c.in-Err-read_for.ensures.reads e.there c.in-Err-read_for.fault refl))
+
+pub returns-then-failed-clause-leaves : goal.returns-then-failed-clause-leaves
+returns-then-failed-clause-leaves g c = λ ok other. absurd (true≢false (sym (sym c.failed.ensures ∙ c.if-failed.true) ∙ ok))
+
+pub returns-in-Err-clause-leaves : goal.returns-in-Err-clause-leaves
+returns-in-Err-clause-leaves g c = λ ok is. c.in-Err.ensures.there
+
+pub returns-in-Ok-clause-leaves : goal.returns-in-Ok-clause-leaves
+returns-in-Ok-clause-leaves g c = λ ok is. absurd (true≢false (sym is))
+
+pub returns-in-Err-read_for-clause-leaves : goal.returns-in-Err-read_for-clause-leaves
+returns-in-Err-read_for-clause-leaves g c = λ ok is. absurd (true≢false (sym is ∙ (ap (λ f. is_conflict (Err f)) c.refused.ensures.fault ∙ no_conflict c.in-Err-read_for.fault)))

@@ -2,7 +2,7 @@ use denote.Param.Send.{sendable}
 use Rattle.std.proofs.Common.{refl}
 use Rattle.hall_rooms.specs.Rooms.{beginning_of}
 use Rattle.hall_rooms.proofs.Crossing.{bucket_send, in_hall_send}
-use Rattle.txn_engine.proofs.Taking.{stopped, taken_for, there_for}
+use Rattle.txn_engine.proofs.Taking.{stopped, taken_for, there_for, there_stopped}
 use Rattle.txn_engine.proofs.txn.Txn.take_for.Goals as goal
 
 pub refresh-requires-send-B : goal.refresh-requires-send-B
@@ -28,3 +28,6 @@ returns-clause-there g c =
     let e = c.in_default.ensures in
     let r = c.refresh.ensures in
     there_for (beginning_of c.args.hall.now) c.args.call.now c.args.self.now c.take_buckets.new.locks c.args.pass.now c.take_buckets.new.pass c.refresh.new.pass c.requires.open e.pass.2 e.locks c.refresh.result r.answer
+
+pub returns-in-Err-clause-there : goal.returns-in-Err-clause-there
+returns-in-Err-clause-there g c = there_stopped (beginning_of c.args.hall.now) c.args.call.now c.args.self.now c.take_buckets.new.locks c.args.pass.now c.take_buckets.new.pass c.in-Err.conflict c.requires.open c.in-Err.ensures.locks

@@ -244,8 +244,8 @@ for group in 64 1; do
   run_wall=$wall run_between=$between run_reading=$reading run_printing=$printing run_cpu=$cpu run_resident=$resident run_bytes=$bytes run_status=$status
   # ahead of the C program, whose writes the sync at the opening would wait for
   first=$(gets)
-  # a row has 19 + 1 + 12 + 2 + 100 bytes, an epoch an index entry for each leaf besides, of which there is at least one
-  timed /dev/null /dev/null "$work/plain" "$work/plain_log" $epochs $((40 + group * 134 + 14))
+  # a row has 19 + 1 + 12 + 2 + 100 bytes, and mostly a leaf of its own, so that an epoch has an index entry for each besides
+  timed /dev/null /dev/null "$work/plain" "$work/plain_log" $epochs $((40 + group * (134 + 14)))
   echo "group $group, status $run_status: $(of $((count * 1000)) $((run_wall / 1000))) transactions a second, $(of $run_wall $wall) of the C program's time"
   running=$((run_between - run_reading - run_printing))
   echo "  processor microseconds a transaction: $(of $run_between $count) in all; reading $(of $run_reading $count), running $(of $running $count), printing $(of $run_printing $count); the kernel counts $(of $run_cpu $count)"

@@ -47,7 +47,7 @@ use Rattle.txn_engine.specs.Faults.{after_fault, fault_of}
 use Rattle.hall_rooms.specs.Rooms.{RoomPass}
 use Rattle.hall_rooms.specs.Turning.{MeetsNone}
 use Rattle.txn_engine.specs.Steps.{IsRefusedFor, IsShown, ReadsOr}
-use Rattle.txn_engine.specs.Reads.{AreThere, ReadsBuckets, Traces, WasThere}
+use Rattle.txn_engine.specs.Reads.{WereHeldOrTaken, ReadsBuckets, Traces, WasThere}
 use Rattle.txn_engine.specs.Turns.{ReadsFront, StaysOpen}
 use Rattle.txn_engine.specs.Txns.{CallsOr, IsOpenOn, IsOpenTxn, IsOver, KeepsCall, MeetsRead, Refuses, SaysFull, SeesCall, TakesBuckets, WantsMemory}
 use Rattle.txn_engine.proofs.Failing.{after_same}
@@ -240,7 +240,7 @@ module _ (z : TableId) (x : Beginning) (c : Call) (t t₂ t₃ : Txn) (p p₂ p�
 
   -- ---- the buckets
 
-  module _ (there : AreThere x t t₂.locks p₂) where
+  module _ (there : WereHeldOrTaken x t t₂.locks p₂) where
     was_there : (k : ℕ) (b : Cache) → k < 256 → HasLock t₂.locks k b → WasThere x t p₃ k b
     was_there k b low h = subst (λ q. HasLock t.locks k b ⊎ (LacksLock t.locks k × StandsFor x.log k q.published b (commits q.seen))) (sym stayed.same_known) (there k b low h)
 

@@ -25,7 +25,7 @@ use Rattle.partition_hold.specs.SourceLaws.{finds_before, later_tells}
 use Rattle.partition_hold.specs.Sources.{IsLater, finds_in, tells_rows}
 use Rattle.partition_hold.specs.Views.{ViewValue}
 use Rattle.key_locks.specs.Locks.{HasLock}
-use Rattle.txn_engine.specs.Reads.{ChangesIn, DoesIn, EachWalks, FindsIn, GathersBelow, OnlyWalks, Traces, WalksIn}
+use Rattle.txn_engine.specs.Reads.{ChangesIn, DoesIn, EachWalks, AnswersScan, GathersBelow, OnlyWalks, Traces, WalksIn}
 use Rattle.txn_engine.specs.Txns.{HasAll}
 use Rattle.txn_engine.proofs.Ending.{less_or_at}
 use Rattle.txn_engine.proofs.Open.{one_content}
@@ -64,7 +64,7 @@ plain_does v d d' (call.Del key) r b b' plain h = h
 plain_does v d d' (call.Add key by) r b b' plain h = h
 plain_does v d d' (call.Scan low high limit) r b b' plain h = absurd (true≢false plain)
 
-pub plain_finds : (locks : List (Option Cache)) (d d' : DraftValue) (c : Call) (r : Result (Unit {0}) TreeFault) → is_scan c ≡ false → OnOk r (FindsIn locks d d' c)
+pub plain_finds : (locks : List (Option Cache)) (d d' : DraftValue) (c : Call) (r : Result (Unit {0}) TreeFault) → is_scan c ≡ false → OnOk r (AnswersScan locks d d' c)
 plain_finds locks d d' (call.Get key) (Ok done) plain = tt
 plain_finds locks d d' (call.Put key value) (Ok done) plain = tt
 plain_finds locks d d' (call.Del key) (Ok done) plain = tt
@@ -205,7 +205,7 @@ module _ (v : ViewValue) (locks locks' : List (Option Cache)) (d d' : DraftValue
       (b.0, b.1, subst (λ x. DoesIn v d d' x r b.0 b') (sym scans) (subst (WalksIn v low high limit r b.0) (one_content locks' k now.0 b' now.1 h) now.2))
 
   pub traced_found : (s : List Pair) → EachWalks 256 v locks locks' low high limit (Ok tt) → GathersBelow 256 locks' low high limit [] s → KeepsFound c s d d' → Traces v locks locks' d d' c (Ok tt)
-  traced_found s w g keeps = record { each = traced_each (Ok tt) w; finds = subst (FindsIn locks' d d') (sym scans) (s, g, subst (λ x. KeepsFound x s d d') scans keeps) }
+  traced_found s w g keeps = record { each = traced_each (Ok tt) w; finds = subst (AnswersScan locks' d d') (sym scans) (s, g, subst (λ x. KeepsFound x s d d') scans keeps) }
 
   pub traced_halted : (fault : TreeFault) → EachWalks 256 v locks locks' low high limit (Err fault) → Traces v locks locks' d d' c (Err fault)
   traced_halted fault w = record { each = traced_each (Err fault) w; finds = tt }

@@ -31,7 +31,7 @@ use Rattle.key_locks.proofs.Gathered.{gathers_none, gathers_one}
 use Rattle.txn_engine.specs.declared.txn.Txn.{Txn}
 use Rattle.hall_rooms.specs.Rooms.{RoomPass, bucket_number}
 use Rattle.hall_rooms.specs.Turning.{MeetsNone}
-use Rattle.txn_engine.specs.Reads.{AreThere, WasThere}
+use Rattle.txn_engine.specs.Reads.{WereHeldOrTaken, WasThere}
 use Rattle.txn_engine.specs.Turns.{GathersBuckets, LocksOr, StopsFor, TakesFor, TakesOr}
 use Rattle.txn_engine.specs.Txns.{IsOpenOn, IsOpenTxn}
 use Rattle.txn_engine.proofs.Answering.{here_is, scan_here}
@@ -189,7 +189,7 @@ module _ (x : Beginning) (c : Call) (t t' : Txn) (p p₁ : RoomPass) (before : A
 
 -- each bucket of a set was held, or was taken and stands for all that the pass saw
 there_from : (x : Beginning) (t : Txn) (locks' : List (Option Cache)) (p p' : RoomPass) → IsOpenTxn x t p → ((k : ℕ) (b : Cache) → HasLock t.locks k b → HasLock locks' k b)
-    → ((k : ℕ) (b : Cache) → k < 256 → HasLock locks' k b → HasLock t.locks k b ⊎ StandsFor x.log k (published p') b (seen p')) → AreThere x t locks' p'
+    → ((k : ℕ) (b : Cache) → k < 256 → HasLock locks' k b → HasLock t.locks k b ⊎ StandsFor x.log k (published p') b (seen p')) → WereHeldOrTaken x t locks' p'
 there_from x t locks' p p' o kept stands k b low h = by (o.locks k low)
   where
     by : (LacksLock t.locks k × LacksPlace p k) ⊎ (((a : Cache) × HasLock t.locks k a) × HasPlace p k) → WasThere x t p' k b
@@ -198,7 +198,7 @@ there_from x t locks' p p' o kept stands k b low h = by (o.locks k low)
 
 -- behind the mailbox
 pub there_for : (x : Beginning) (c : Call) (t : Txn) (locks' : List (Option Cache)) (p p₁ p₂ : RoomPass) → IsOpenTxn x t p → AreLocksOf locks' p₁ → TakesFor x c t.locks locks' p p₁ → (b : Bool) → MatchBool b (Refreshes state_of x p₁ p₂) (FindsStale p₁ p₂)
-    → AreThere x t locks' p₂
+    → WereHeldOrTaken x t locks' p₂
 there_for x c t locks' p p₁ p₂ o are takes b looks = there_from x t locks' p p₂ o takes.gathers.kept (λ k y low h. on k y low h (takes.gathers.stands k y low h))
   where
     sees : (b : Bool) → MatchBool b (Refreshes state_of x p₁ p₂) (FindsStale p₁ p₂) → SeesMore p₁ p₂
@@ -212,7 +212,7 @@ there_for x c t locks' p p₁ p₂ o are takes b looks = there_from x t locks' p
         (same_bucket bucket_number kept_at IsResting x k (published p₁) y (seen p₁) (seen p₂) (more.kept k (near k low) (has_place locks' p₁ k y low are h)) new))
 
 -- and where a conflict came
-pub there_stopped : (x : Beginning) (c : Call) (t : Txn) (locks' : List (Option Cache)) (p p₁ : RoomPass) (conflict : Conflict) → IsOpenTxn x t p → StopsFor x c t.locks locks' p p₁ conflict → AreThere x t locks' p₁
+pub there_stopped : (x : Beginning) (c : Call) (t : Txn) (locks' : List (Option Cache)) (p p₁ : RoomPass) (conflict : Conflict) → IsOpenTxn x t p → StopsFor x c t.locks locks' p p₁ conflict → WereHeldOrTaken x t locks' p₁
 there_stopped x c t locks' p p₁ conflict o s = there_from x t locks' p p₁ o s.gathers.kept (λ k y low h. on k y (s.gathers.stands k y low h))
   where
     on : (k : ℕ) (y : Cache) → HasLock t.locks k y ⊎ IsBucketFor bucket_number kept_at IsResting x.log k (published s.between) y (seen s.between) → HasLock t.locks k y ⊎ StandsFor x.log k (published p₁) y (seen p₁)

@@ -28,11 +28,11 @@ use Rattle.txn_engine.specs.Faults.{fault_of}
 
 -- ---- in one bucket
 
--- Nothing was done to a bucket but loads through a view, of nodes on the walk of a scan.
+-- Nothing was done to a bucket but loads through a view, of nodes on the walk of a scan; in which order its nodes were used is not told.
 abbrev pub OnlyWalks : ViewValue → List ℕ → List ℕ → ℕ → Cache → Cache → Type 0
 OnlyWalks v low high limit b b' = IsLoaded (tells_rows v) (finds_in v) v.upto b b' × LoadsOnWalk b b' low high limit
 
--- What a scan did in a bucket: nothing but loads. Where it was answered, the whole walk is loaded and fit. It is refused for no full bucket and for no version.
+-- What a scan did in a bucket: nothing but loads. Where it was answered, the whole walk is loaded and fit. It is refused neither with `BucketFull` nor with `Number`.
 abbrev pub WalksIn : ViewValue → List ℕ → List ℕ → ℕ → Result (Unit {0}) TreeFault → Cache → Cache → Type 0
 WalksIn v low high limit (Ok done) b b' = Scans (tells_rows v) (finds_in v) v.upto low high limit b b'
 WalksIn v low high limit (Err fault) b b' = OnFault fault (λ _. OnlyWalks v low high limit b b') (λ _. OnlyWalks v low high limit b b') (OnlyWalks v low high limit b b')
@@ -47,7 +47,7 @@ abbrev pub DoesIn : ViewValue → DraftValue → DraftValue → Call → Result 
 DoesIn v d d' (call.Scan low high limit) r b b' = WalksIn v low high limit r b b'
 DoesIn v d d' c r b b' = ChangesIn v d d' c r b b'
 
--- and in each bucket of a set below a number
+-- the same of a scan, in each bucket of a set below a number
 abbrev pub EachWalks : ℕ → ViewValue → List (Option Cache) → List (Option Cache) → List ℕ → List ℕ → ℕ → Result (Unit {0}) TreeFault → Type 0
 EachWalks upto v locks locks' low high limit r = (k : ℕ) (b : Cache) → k < upto → HasLock locks k b → (b' : Cache) × HasLock locks' k b' × WalksIn v low high limit r b b'
 
@@ -61,24 +61,24 @@ pub record GathersBelow (upto : ℕ) (locks : List (Option Cache)) (low high : L
   pub next : (k : ℕ) (b : Cache) → k < upto → HasLock locks k b → IsGathered b low high limit (so_far k) (so_far (k + 1))
 
 -- A scan is answered with the first pairs of those that were gathered from all buckets.
-abbrev pub FindsIn : List (Option Cache) → DraftValue → DraftValue → Call → Type 0
-FindsIn locks d d' (call.Scan low high limit) = (pairs : List Pair) × GathersBelow 256 locks low high limit [] pairs × KeepsFound (call.Scan low high limit) pairs d d'
-FindsIn locks d d' c = Unit {0}
+abbrev pub AnswersScan : List (Option Cache) → DraftValue → DraftValue → Call → Type 0
+AnswersScan locks d d' (call.Scan low high limit) = (pairs : List Pair) × GathersBelow 256 locks low high limit [] pairs × KeepsFound (call.Scan low high limit) pairs d d'
+AnswersScan locks d d' c = Unit {0}
 
 -- ---- in all buckets of a call
 
--- A call was answered through a view on the buckets of a set.
+-- A call was answered or refused through a view on the buckets of a set.
 pub record Traces (v : ViewValue) (locks locks' : List (Option Cache)) (d d' : DraftValue) (c : Call) (r : Result (Unit {0}) TreeFault) : Type 0 where
   pub each : (k : ℕ) (b' : Cache) → k < 256 → is_here k c ≡ true → HasLock locks' k b' → (b : Cache) × HasLock locks k b × DoesIn v d d' c r b b'
-  pub finds : OnOk r (FindsIn locks' d d' c)
+  pub finds : OnOk r (AnswersScan locks' d d' c)
 
 -- A bucket as a call had it before it read: the transaction held it so, or it held none, and took one that stands for all that the pass then saw.
 abbrev pub WasThere : Beginning → Txn → RoomPass → ℕ → Cache → Type 0
 WasThere x t p' k b = HasLock t.locks k b ⊎ (LacksLock t.locks k × StandsFor x.log k (published p') b (seen p'))
 
 -- the buckets of a set are those that a transaction held, and others that were taken
-abbrev pub AreThere : Beginning → Txn → List (Option Cache) → RoomPass → Type 0
-AreThere x t locks p' = (k : ℕ) (b : Cache) → k < 256 → HasLock locks k b → WasThere x t p' k b
+abbrev pub WereHeldOrTaken : Beginning → Txn → List (Option Cache) → RoomPass → Type 0
+WereHeldOrTaken x t locks p' = (k : ℕ) (b : Cache) → k < 256 → HasLock locks k b → WasThere x t p' k b
 
 -- the answer of a call whose trees answered so
 abbrev pub answer_of : Result (Unit {0}) TreeFault → Result (Unit {0}) TxnFault
@@ -94,4 +94,4 @@ pub record ReadsBuckets (x : Beginning) (c : Call) (t t' : Txn) (p' : RoomPass) 
   pub trees : Result (Unit {0}) TreeFault
   pub answer : r ≡ answer_of trees
   pub each : (k : ℕ) (b' : Cache) → k < 256 → is_here k c ≡ true → HasLock t'.locks k b' → (b : Cache) × WasThere x t p' k b × DoesIn front t.draft t'.draft c trees b b'
-  pub finds : OnOk trees (FindsIn t'.locks t.draft t'.draft c)
+  pub finds : OnOk trees (AnswersScan t'.locks t.draft t'.draft c)

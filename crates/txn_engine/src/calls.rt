@@ -9,7 +9,7 @@ ghost use Rattle.node_cache.specs.Cache.{Cache};
 ghost use Rattle.key_locks.specs.Locks.{AreLocksOf, HasLock, LacksLock};
 ghost use Rattle.hall_rooms.specs.Rooms.{IsRoomPass, beginning_of};
 ghost use Rattle.txn_engine.specs.Txns.{CallsOr, HasBuckets, IsOpenTxn, SeesCall, StaysFailed, is_conflict, wants_memory};
-ghost use Rattle.txn_engine.specs.Reads.{AreThere, ReadsBuckets};
+ghost use Rattle.txn_engine.specs.Reads.{WereHeldOrTaken, ReadsBuckets};
 ghost use Rattle.txn_engine.specs.Turns.{LocksOr, ReadsFront, TakesOr};
 ghost use Rattle.txn_engine.specs.Faults.{after_fault, fault_of, source_fault};
 
@@ -109,7 +109,7 @@ impl Txn {
         requires call { FitsCall call.now }
         ensures pass { IsRoomPass hall.now pass.new × (pass.new.number ≡ pass.old.number) }
         ensures takes { TakesOr (beginning_of hall.now) call.now self.old self.new pass.old pass.new result }
-        ensures there { AreThere (beginning_of hall.now) self.old self.new.locks pass.new }
+        ensures there { WereHeldOrTaken (beginning_of hall.now) self.old self.new.locks pass.new }
     {
         if let Err(conflict) = take_buckets(&mut self.locks, hall, pass, call) {
             return Err(conflict);
@@ -159,7 +159,7 @@ impl Txn {
     /// The call then stands behind the others, answered on all that the pass saw [`answer`, `open`]. `Conflict` names the first bucket of the call that another
     /// seat was found to hold, and leaves the draft; the pass keeps what it took, which for a scan is all buckets below that one. `Disk` comes only where a
     /// read through the front failed. `BadRow` and `BadIndex` name a place of a part of the front that is bad by what was read, and `Unfit` the first node on
-    /// the call's way that is not fit, by what a bucket gives that is then held; these do not come where the log at entry was told and sound. There
+    /// the call's way that is not fit, by what a bucket gives that is then held, of a scan the first one in some bucket; these do not come where the log at entry was told and sound. There
     /// `BucketFull` and `Number` come only where the definitions refuse the call for this reason, with what the bucket's head says, and with the first node
     /// that is over its bounds. After each of these it may be tried again. Unless a conflict refused it, or memory had run out before it, the pass's front then shows
     /// what the pass saw, up to an epoch not below the published one that it knows [`ahead`]. `NoMemory` leaves the transaction failed, and no other answer does [`failed`]: each
@@ -168,7 +168,7 @@ impl Txn {
     /// Whatever the log is, and again unless a conflict refused it or memory had run out before it, each bucket of the call is what the call made of the one that the transaction
     /// held or took [`reads`]: nodes on the call's way were loaded through the front, and then it was answered on what the bucket gives, and its rows were pushed on that. A scan only
     /// loads, and answers the first pairs that the buckets give then. Each refusal but `NoMemory` only loads; `Unfit`, `BucketFull` and `Number` have their cause in what the bucket gives then. A
-    /// conflict leaves all buckets as they were held or taken [`leaves`].
+    /// conflict leaves the transaction's own buckets as they were; one that was taken rests, and stands for all that the pass then saw [`leaves`].
     pub fn call<D: LogDisk>(
         &mut self,
         hall: &RoomHall<D>,
@@ -185,7 +185,7 @@ impl Txn {
         ensures sees { SeesCall (beginning_of hall.now) pass.old pass.new }
         ensures answer { CallsOr (beginning_of hall.now) call.now self.old self.new pass.old pass.new result }
         ensures ahead { self.old.draft.failed ≡ false → is_conflict result ≡ false → IsAhead state_of (beginning_of hall.now) pass.new }
-        ensures leaves { self.old.draft.failed ≡ false → is_conflict result ≡ true → AreThere (beginning_of hall.now) self.old self.new.locks pass.new }
+        ensures leaves { self.old.draft.failed ≡ false → is_conflict result ≡ true → WereHeldOrTaken (beginning_of hall.now) self.old self.new.locks pass.new }
         ensures reads { self.old.draft.failed ≡ false → is_conflict result ≡ false → ReadsBuckets (beginning_of hall.now) call.now self.old self.new pass.new result }
     {
         if self.draft.failed() {

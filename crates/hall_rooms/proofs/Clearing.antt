@@ -17,7 +17,7 @@ use Rattle.fine_hall.specs.Halls.{IsAhead}
 use Rattle.hall_rooms.specs.Rooms.{RoomPass}
 use Rattle.hall_rooms.specs.Steps.{IsCleanTurn, ShowsOr}
 use Rattle.hall_rooms.specs.Turning.{ErasesFirst, LosesFirst, LosesTarget, SealedAndPosted, StillWaits, StopsPosting}
-use Rattle.hall_rooms.specs.Making.{AllAhead, ClearsOr, EndRounds, ErasesAndLooks, IsCleared, RoundOr, SameOrSealed, SealsAll, Stops, StopsErasing, StopsRound}
+use Rattle.hall_rooms.specs.Making.{AllAhead, ClearsOr, WholeRounds, ErasesAndLooks, IsCleared, RoundOr, SameOrSealed, SealsAll, Stops, StopsErasing, StopsRound}
 use Rattle.hall_rooms.proofs.Erased.{job_kept, may_settle}
 use Rattle.hall_rooms.proofs.Turned.{some_failed}
 
@@ -127,7 +127,7 @@ chain_then old mid new (inr was) c = by old.room.waiting refl
     by (suc n) is = let e = was.epoch (λ none. absurd (omega (arith, is, none))) in inr (e.0, same ∙ e.1, e.2)
 
 -- behind some rounds one stopped
-module _ (seats : ℕ) (old mid new : RoomValue) (so_far : SoFar old mid) (rounds : ℕ) (ended : EndRounds seats rounds old mid) where
+module _ (seats : ℕ) (old mid new : RoomValue) (so_far : SoFar old mid) (rounds : ℕ) (ended : WholeRounds seats rounds old mid) where
   pub stops_then : (fault : RoomFault) → StopsRound seats mid new fault → Stops seats old new fault
   stops_then room_fault.Disk s = (was_open old mid so_far s.0, s.1, record { rounds = rounds; before = mid; ended = ended; stops = s; chain = chain_then old mid new so_far (disk_chain seats mid.room new.room s.2) })
   stops_then (room_fault.Shut epoch) s = shut_then seats old mid new so_far epoch s
@@ -176,16 +176,16 @@ job_stays a b keeps none = keeps.job ∙ none
 -- ---- until nothing is retired
 
 module _ (x : Beginning) (old mid new : RoomValue) (so_far : SoFar old mid) (p' : RoomPass) (others : List RoomPass) where
-  pub cleared : RoundOr x mid new p' others (Ok true) → IsWhole new → new.room.job ≡ None → ClearsOr x old new p' others (Ok tt)
-  cleared r whole none =
+  pub cleared : (rounds : ℕ) → WholeRounds x.seats rounds old mid → RoundOr x mid new p' others (Ok true) → IsWhole new → new.room.job ≡ None → ClearsOr x old new p' others (Ok tt)
+  cleared rounds ended r whole none =
       let seals = so_far_then old mid new so_far r.1 in
-      (r.0, record { seals = seals; cleared = is_cleared new whole seals.not_shut seals.none_waits (r.5.0 refl) none }, r.2, r.3)
+      (r.0, record { rounds = rounds; before = mid; ended = ended; last = r.4; seals = seals; cleared = is_cleared new whole seals.not_shut seals.none_waits (r.5.0 refl) none }, r.2, r.3)
 
-  pub round_fails : (rounds : ℕ) → EndRounds x.seats rounds old mid → (fault : RoomFault) → RoundOr x mid new p' others (Err fault) → ClearsOr x old new p' others (Err fault)
+  pub round_fails : (rounds : ℕ) → WholeRounds x.seats rounds old mid → (fault : RoomFault) → RoundOr x mid new p' others (Err fault) → ClearsOr x old new p' others (Err fault)
   round_fails rounds ended fault r = (r.0, stops_then x.seats old mid new so_far rounds ended fault r.1)
 
   pub round_more : RoundOr x mid new p' others (Ok false) → SoFar old new
   round_more r = inr (so_far_then old mid new so_far r.1)
 
-  pub rounds_more : (rounds : ℕ) → EndRounds x.seats rounds old mid → RoundOr x mid new p' others (Ok false) → EndRounds x.seats (suc rounds) old new
+  pub rounds_more : (rounds : ℕ) → WholeRounds x.seats rounds old mid → RoundOr x mid new p' others (Ok false) → WholeRounds x.seats (suc rounds) old new
   rounds_more rounds ended r = (mid, ended, r.4, r.5.1 refl)

@@ -102,11 +102,11 @@ merge_damage x from old new p c r m = on_damage r (StandsForNone old) (NotBegan 
 
 -- ---- making room
 
-module _ (seats from : ℕ) (found cleared room : RoomValue) (c : Clears found cleared) (had : Bool) (is : had ≡ is_some (retired_from found.room 0)) where
-  once : (P : RoomValue → Type 0) → P cleared → OnceCleared found P
+module _ (seats from : ℕ) (found cleared room : RoomValue) (c : Clears seats found cleared) (had : Bool) (is : had ≡ is_some (retired_from found.room 0)) where
+  once : (P : RoomValue → Type 0) → P cleared → OnceCleared seats found P
   once P p = record { cleared = cleared; clears = c; is = p }
 
-  done : (h b : Bool) → h ≡ is_some (retired_from found.room 0) → (MergesAndClears from cleared room × (b ≡ true)) ⊎ (TriesInVain from cleared room × (b ≡ h)) → MakesOr seats from found room (Ok b)
+  done : (h b : Bool) → h ≡ is_some (retired_from found.room 0) → (MergesAndClears seats from cleared room × (b ≡ true)) ⊎ (TriesInVain from cleared room × (b ≡ h)) → MakesOr seats from found room (Ok b)
   done h true same (inl m) = inl (once _ m.0)
   done h false same (inl m) = absurd (true≢false (sym m.1))
   done true true same (inr t) = inr (some_retired found.room (sym same), once _ t.0)

@@ -92,28 +92,32 @@ pub record SealsAll (old new : RoomState) : Type 0 where
   pub parts : old.waiting ≡ 0 → new.parts ≡ old.parts
   pub epoch : (old.waiting ≡ 0 → ⊥) → AddsEpoch old new
 
--- So it is, and all that was retired is erased.
-pub record Clears (old new : RoomValue) : Type 0 where
-  pub seals : SealsAll old.room new.room
-  pub cleared : IsCleared new
-
 -- One round that came to its end: what waited was sealed and each seat has a new view, and then all was erased that no view names.
-pub record EndsRound (seats : ℕ) (old new : RoomValue) : Type 0 where
+pub record WholeRound (seats : ℕ) (old new : RoomValue) : Type 0 where
   pub shown : RoomState
   pub posts : SealedAndPosted old.room shown seats
   pub erased : ℕ
   pub erases : ErasesUnheld shown new.room erased
 
 -- so many rounds, each of which left something retired
-abbrev pub EndRounds : ℕ → ℕ → RoomValue → RoomValue → Type 0
-EndRounds seats zero old new = new ≡ old
-EndRounds seats (suc rounds) old new = (mid : RoomValue) × EndRounds seats rounds old mid × EndsRound seats mid new × (new.room.retired ≢ [])
+abbrev pub WholeRounds : ℕ → ℕ → RoomValue → RoomValue → Type 0
+WholeRounds seats zero old new = new ≡ old
+WholeRounds seats (suc rounds) old new = (mid : RoomValue) × WholeRounds seats rounds old mid × WholeRound seats mid new × (new.room.retired ≢ [])
+
+-- Some rounds came to their end, each of which left something retired, and one more, behind which nothing is retired.
+pub record Clears (seats : ℕ) (old new : RoomValue) : Type 0 where
+  pub rounds : ℕ
+  pub before : RoomValue
+  pub ended : WholeRounds seats rounds old before
+  pub last : WholeRound seats before new
+  pub seals : SealsAll old.room new.room
+  pub cleared : IsCleared new
 
 -- what waited was sealed and each seat has a new view, and erasing came so far
 abbrev pub StopsErasing : ℕ → RoomState → (RoomState → Type 0) → Type 0
 StopsErasing seats old erases = (shown : RoomState) × SealedAndPosted old shown seats × erases shown
 
--- a round stopped in sealing, in posting behind that, or in erasing behind both
+-- a round stopped in sealing, in posting behind that, or in erasing behind both; or the room was shut before, and nothing was done
 abbrev pub StopsRound : ℕ → RoomValue → RoomValue → RoomFault → Type 0
 StopsRound seats old new room_fault.Disk =
     (old.room.is_shut ≡ false) × (new.room.is_shut ≡ true) × (LosesTarget old.room new.room ⊎ (StopsPosting old.room new.room seats ⊎ StopsErasing seats old.room (λ shown. LosesFirst shown new.room)))
@@ -121,15 +125,16 @@ StopsRound seats old new (room_fault.Shut epoch) = (old.room.is_shut ≡ true) �
 StopsRound seats old new room_fault.NoMemory =
     (new.room.is_shut ≡ false) × (StillWaits old.room new.room ⊎ (StopsPosting old.room new.room seats ⊎ StopsErasing seats old.room (λ shown. ErasesFirst shown new.room)))
 
--- no neighbours were merged: the chain is as it was, or has one part more, of what waited
+-- no neighbours were merged: the chain is as it was, or has one part more, of the epoch behind the last sealed one
 abbrev pub SameOrSealed : RoomState → RoomState → Type 0
 SameOrSealed old new = (new.parts ≡ old.parts) ⊎ AddsEpoch old new
 
--- Some rounds came to their end, and the one behind them stopped. Nothing else was done.
+-- Some rounds came to their end, and the one behind them stopped. Nothing else was done to the chain, the buffers of the board, and what is retired,
+-- free, lost or waits.
 pub record StopsClearing (seats : ℕ) (old new : RoomValue) (fault : RoomFault) : Type 0 where
   pub rounds : ℕ
   pub before : RoomValue
-  pub ended : EndRounds seats rounds old before
+  pub ended : WholeRounds seats rounds old before
   pub stops : StopsRound seats before new fault
   pub chain : SameOrSealed old.room new.room
 
@@ -146,31 +151,31 @@ GoesOnAfter x room p (room_fault.Shut epoch) = IsCleanTurn x room p
 GoesOnAfter x room p room_fault.NoMemory = IsCleanTurn x room p
 
 -- it is told whether nothing is retired
-abbrev pub LooksRetired : RoomState → Bool → Type 0
-LooksRetired room done = (done ≡ true → room.retired ≡ []) × (done ≡ false → room.retired ≢ [])
+abbrev pub TellsNoneRetired : RoomState → Bool → Type 0
+TellsNoneRetired room done = (done ≡ true → room.retired ≡ []) × (done ≡ false → room.retired ≢ [])
 
 -- what no view names is erased, and it is told whether nothing is retired
 abbrev pub ErasesAndLooks : RoomValue → RoomValue → Result Bool RoomFault → Type 0
-ErasesAndLooks old new (Ok done) = (erased : ℕ) × ErasesOr old new (Ok erased) × LooksRetired new.room done
+ErasesAndLooks old new (Ok done) = (erased : ℕ) × ErasesOr old new (Ok erased) × TellsNoneRetired new.room done
 ErasesAndLooks old new (Err fault) = ErasesOr old new (Err fault)
 
 -- one round: what waited is sealed, views are posted to all seats and taken, and what no view names is erased
 abbrev pub RoundOr : Beginning → RoomValue → RoomValue → RoomPass → List RoomPass → Result Bool RoomFault → Type 0
-RoundOr x old new p' others (Ok done) = IsCleanTurn x new p' × SealsAll old.room new.room × IsAhead state_of x p' × AllAhead x others × EndsRound x.seats old new × LooksRetired new.room done
+RoundOr x old new p' others (Ok done) = IsCleanTurn x new p' × SealsAll old.room new.room × IsAhead state_of x p' × AllAhead x others × WholeRound x.seats old new × TellsNoneRetired new.room done
 RoundOr x old new p' others (Err fault) = GoesOnAfter x new p' fault × StopsRound x.seats old new fault
 
 -- rounds until nothing is retired
 abbrev pub ClearsOr : Beginning → RoomValue → RoomValue → RoomPass → List RoomPass → Result (Unit {0}) RoomFault → Type 0
-ClearsOr x old new p' others (Ok done) = IsCleanTurn x new p' × Clears old new × IsAhead state_of x p' × AllAhead x others
+ClearsOr x old new p' others (Ok done) = IsCleanTurn x new p' × Clears x.seats old new × IsAhead state_of x p' × AllAhead x others
 ClearsOr x old new p' others (Err fault) = GoesOnAfter x new p' fault × Stops x.seats old new fault
 
 -- ---- merging what was cleared
 
 -- two were merged, and what they were is erased
-pub record MergesAndClears (from : ℕ) (old new : RoomValue) : Type 0 where
+pub record MergesAndClears (seats from : ℕ) (old new : RoomValue) : Type 0 where
   pub merged : RoomValue
   pub merges : MergesThroughOr from old merged (Ok true)
-  pub clears : Clears merged new
+  pub clears : Clears seats merged new
 
 -- all neighbours were tried in vain, and nothing is retired still
 pub record TriesInVain (from : ℕ) (old new : RoomValue) : Type 0 where
@@ -183,13 +188,13 @@ StopsMerging seats from old new fault = MergesThroughOr from old new (Err (merge
 
 -- a room in which two were merged is cleared
 abbrev pub ClearsMergedOr : ℕ → RoomValue → RoomValue → Result Bool MergeFault → Type 0
-ClearsMergedOr seats old new (Ok done) = Clears old new × (done ≡ true)
+ClearsMergedOr seats old new (Ok done) = Clears seats old new × (done ≡ true)
 ClearsMergedOr seats old new (Err (merge_fault.Fetch fault)) = ⊥
 ClearsMergedOr seats old new (Err (merge_fault.Room fault)) = Stops seats old new fault
 
 -- two were merged, or none fit, and the answer is as it was told
 abbrev pub MergesClearedOr : ℕ → ℕ → Bool → RoomValue → RoomValue → Result Bool MergeFault → Type 0
-MergesClearedOr seats from had old new (Ok done) = (MergesAndClears from old new × (done ≡ true)) ⊎ (TriesInVain from old new × (done ≡ had))
+MergesClearedOr seats from had old new (Ok done) = (MergesAndClears seats from old new × (done ≡ true)) ⊎ (TriesInVain from old new × (done ≡ had))
 MergesClearedOr seats from had old new (Err (merge_fault.Fetch fault)) = MergesThroughOr from old new (Err (merge_fault.Fetch fault))
 MergesClearedOr seats from had old new (Err (merge_fault.Room fault)) = StopsMerging seats from old new fault
 
@@ -200,23 +205,23 @@ GoesOn x room p r = Failing r (IsFailedTurn x room p) (IsCleanTurn x room p)
 -- ---- making room
 
 -- P of the room once it was cleared
-pub record OnceCleared (found : RoomValue) (P : RoomValue → Type 0) : Type 0 where
+pub record OnceCleared (seats : ℕ) (found : RoomValue) (P : RoomValue → Type 0) : Type 0 where
   pub cleared : RoomValue
-  pub clears : Clears found cleared
+  pub clears : Clears seats found cleared
   pub is : P cleared
 
 -- Something was retired, which is erased, and no two neighbours fit; or two were merged. False: nothing was retired and no two fit. It
 -- stopped before the room was cleared, or behind that.
 abbrev pub MakesOr : ℕ → ℕ → RoomValue → RoomValue → Result Bool MergeFault → Type 0
 MakesOr seats from found room (Ok true) =
-    OnceCleared found (λ cleared. MergesAndClears from cleared room) ⊎ ((found.room.retired ≢ []) × OnceCleared found (λ cleared. TriesInVain from cleared room))
-MakesOr seats from found room (Ok false) = (found.room.retired ≡ []) × OnceCleared found (λ cleared. TriesInVain from cleared room)
-MakesOr seats from found room (Err (merge_fault.Fetch fault)) = OnceCleared found (λ cleared. MergesThroughOr from cleared room (Err (merge_fault.Fetch fault)))
+    OnceCleared seats found (λ cleared. MergesAndClears seats from cleared room) ⊎ ((found.room.retired ≢ []) × OnceCleared seats found (λ cleared. TriesInVain from cleared room))
+MakesOr seats from found room (Ok false) = (found.room.retired ≡ []) × OnceCleared seats found (λ cleared. TriesInVain from cleared room)
+MakesOr seats from found room (Err (merge_fault.Fetch fault)) = OnceCleared seats found (λ cleared. MergesThroughOr from cleared room (Err (merge_fault.Fetch fault)))
 MakesOr seats from found room (Err (merge_fault.Room room_fault.Disk)) =
-    (found.room.is_shut ≡ false) × (room.room.is_shut ≡ true) × (Stops seats found room room_fault.Disk ⊎ OnceCleared found (λ cleared. StopsMerging seats from cleared room room_fault.Disk))
+    (found.room.is_shut ≡ false) × (room.room.is_shut ≡ true) × (Stops seats found room room_fault.Disk ⊎ OnceCleared seats found (λ cleared. StopsMerging seats from cleared room room_fault.Disk))
 MakesOr seats from found room (Err (merge_fault.Room (room_fault.Shut epoch))) = (found.room.is_shut ≡ true) × (epoch ≡ found.room.sealed) × (room ≡ found)
 MakesOr seats from found room (Err (merge_fault.Room room_fault.NoMemory)) =
-    (room.room.is_shut ≡ false) × (Stops seats found room room_fault.NoMemory ⊎ OnceCleared found (λ cleared. StopsMerging seats from cleared room room_fault.NoMemory))
+    (room.room.is_shut ≡ false) × (Stops seats found room room_fault.NoMemory ⊎ OnceCleared seats found (λ cleared. StopsMerging seats from cleared room room_fault.NoMemory))
 
 -- ---- the turn
 

@@ -44,7 +44,7 @@ returns-then-is_done-clause-clears g c =
     let x = beginning_of c.args.hall.now in
     let i = c.loop.invariant in
     let new = c.renew_and_erase.new.room in
-    cleared x c.args.room.now c.loop.room new i.so_far c.renew_and_erase.new.pass c.renew_and_erase.new.others
+    cleared x c.args.room.now c.loop.room new i.so_far c.renew_and_erase.new.pass c.renew_and_erase.new.others i.rounds.0 i.rounds.1
     (subst (λ b. RoundOr x c.loop.room new c.renew_and_erase.new.pass c.renew_and_erase.new.others (Ok b)) c.if-is_done.true c.in-Ok.ensures.round) c.counts-whole.ensures.whole
     (job_stays c.loop.room.room new.room c.renew_and_erase.ensures.job i.no_job)
 

@@ -1,7 +1,7 @@
 use Rattle.std.proofs.Common.{◌≡◌, ℕ, None}
 use Rattle.hall_rooms.specs.Rooms.{beginning_of}
 use Rattle.hall_rooms.specs.Steps.{IsCleanTurn}
-use Rattle.hall_rooms.specs.Making.{EndRounds, StayInTurn}
+use Rattle.hall_rooms.specs.Making.{WholeRounds, StayInTurn}
 use Rattle.hall_rooms.proofs.Clearing.{SoFar}
 use Rattle.hall_rooms.proofs.making.clear.Given as goal
 
@@ -12,5 +12,5 @@ invariant-loop g l = record {
   clean : IsCleanTurn (beginning_of l.hall) l.room l.pass;
   no_job : l.room.room.job ≡ None;
   so_far : SoFar l.initial.room l.room;
-  rounds : (rounds : ℕ) × EndRounds (beginning_of l.hall).seats rounds l.initial.room l.room;
+  rounds : (rounds : ℕ) × WholeRounds (beginning_of l.hall).seats rounds l.initial.room l.room;
 }

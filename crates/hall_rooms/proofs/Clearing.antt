@@ -13,6 +13,7 @@ use Rattle.epoch_room.specs.Whole.{IsWhole}
 use Rattle.epoch_room.specs.declared.answers.RoomFault.{RoomFault}
 use Rattle.epoch_room.specs.declared.answers.RoomFault.TheVariants as room_fault
 use Rattle.fine_hall.specs.declared.law.Beginning.{Beginning}
+use Rattle.fine_hall.specs.Passes.{published}
 use Rattle.fine_hall.specs.Halls.{IsAhead}
 use Rattle.hall_rooms.specs.Rooms.{RoomPass}
 use Rattle.hall_rooms.specs.Steps.{IsCleanTurn, ShowsOr}
@@ -142,7 +143,7 @@ module _ (x : Beginning) (old mid new : RoomValue) (others : List RoomPass) wher
   show_fails p' (room_fault.Shut epoch) s = (s.0, (s.1, s.2, s.3))
   show_fails p' room_fault.NoMemory s = (s.0, (s.1, ⊎_elim (λ still. inl still) (λ stopped. inr (inl stopped)) s.2))
 
-  module _ (p' : RoomPass) (not_shut : mid.room.is_shut ≡ false) (posted : SealedAndPosted old.room mid.room x.seats) (c : IsCleanTurn x mid p') where
+  module _ (p' : RoomPass) (not_shut : mid.room.is_shut ≡ false) (posted : SealedAndPosted old.room mid.room x.seats) (c : IsCleanTurn x mid p') (shown : published p' ≡ mid.room.sealed) where
     -- and erasing
     pub round_goes : IsAhead state_of x p' → AllAhead x others → (r : Result Bool RoomFault) → ErasesAndLooks mid new r → RoundOr x old new p' others r
     round_goes ahead all (Ok done) (erased, e, looks) = (
@@ -158,6 +159,7 @@ module _ (x : Beginning) (old mid new : RoomValue) (others : List RoomPass) wher
       ahead,
       all,
       record { shown = mid.room; posts = posted; erased = erased; erases = e.4 },
+      shown ∙ sym e.1.0,
       looks,
     )
     round_goes ahead all (Err room_fault.Disk) e = (record { note = c.note; turn = may_settle x mid new p' c (Err room_fault.Disk) e; some_failed = some_failed x p' mid new c.note c.turn e.4 }, (posted.opened, e.3, inr (inr (mid.room, posted, e.5))))
@@ -179,7 +181,7 @@ module _ (x : Beginning) (old mid new : RoomValue) (so_far : SoFar old mid) (p' 
   pub cleared : (rounds : ℕ) → WholeRounds x.seats rounds old mid → RoundOr x mid new p' others (Ok true) → IsWhole new → new.room.job ≡ None → ClearsOr x old new p' others (Ok tt)
   cleared rounds ended r whole none =
       let seals = so_far_then old mid new so_far r.1 in
-      (r.0, record { rounds = rounds; before = mid; ended = ended; last = r.4; seals = seals; cleared = is_cleared new whole seals.not_shut seals.none_waits (r.5.0 refl) none }, r.2, r.3)
+      (r.0, record { rounds = rounds; before = mid; ended = ended; last = r.4; seals = seals; cleared = is_cleared new whole seals.not_shut seals.none_waits (r.6.0 refl) none }, r.2, r.3, r.5)
 
   pub round_fails : (rounds : ℕ) → WholeRounds x.seats rounds old mid → (fault : RoomFault) → RoundOr x mid new p' others (Err fault) → ClearsOr x old new p' others (Err fault)
   round_fails rounds ended fault r = (r.0, stops_then x.seats old mid new so_far rounds ended fault r.1)
@@ -188,4 +190,4 @@ module _ (x : Beginning) (old mid new : RoomValue) (so_far : SoFar old mid) (p' 
   round_more r = inr (so_far_then old mid new so_far r.1)
 
   pub rounds_more : (rounds : ℕ) → WholeRounds x.seats rounds old mid → RoundOr x mid new p' others (Ok false) → WholeRounds x.seats (suc rounds) old new
-  rounds_more rounds ended r = (mid, ended, r.4, r.5.1 refl)
+  rounds_more rounds ended r = (mid, ended, r.4, r.6.1 refl)

@@ -57,3 +57,7 @@ ahead_told A B room (Ok false) r t f a = ⊎_elim
     (λ h. subst (λ r. IfOk r (λ s. B)) (sym h.0) (f a))
     t
 ahead_told A B room (Err fault) r t f a = subst (λ r. IfOk r (λ s. B)) (sym t) a
+
+pub told_same : (A B : Type 0) (made : Result Bool MergeFault) → (A → B) → IfOk made (λ m. A) → IfOk made (λ m. B)
+told_same A B (Ok made) f a = f a
+told_same A B (Err fault) f a = a

@@ -1,5 +1,5 @@
 -- Making room with the passes of a hall, in one turn of the seat 1.
-use Rattle.std.specs.Prelude.{◌≡◌, ◌≢◌, ◌⊎◌, ℕ, zero, suc, ◌+◌, ◌<◌, ◌≤◌, ◌==◌, if◌then◌else◌, Bool, true, false, List, [], length, None, Result, Ok, Err}
+use Rattle.std.specs.Prelude.{◌≡◌, ◌≢◌, ◌⊎◌, IfOk, ℕ, zero, suc, ◌+◌, ◌<◌, ◌≤◌, ◌==◌, if◌then◌else◌, Bool, true, false, List, [], length, None, Result, Ok, Err}
 use mathlib.Core.Option.{some}
 use lib.ListN.{get_elem?}
 use Rattle.fine_model.specs.declared.Row.{Row}
@@ -159,14 +159,14 @@ abbrev pub ErasesAndLooks : RoomValue → RoomValue → Result Bool RoomFault �
 ErasesAndLooks old new (Ok done) = (erased : ℕ) × ErasesOr old new (Ok erased) × TellsNoneRetired new.room done
 ErasesAndLooks old new (Err fault) = ErasesOr old new (Err fault)
 
--- one round: what waited is sealed, views are posted to all seats and taken, and what no view names is erased
+-- One round: what waited is sealed, views are posted to all seats and taken, and what no view names is erased. The sealed epoch is published.
 abbrev pub RoundOr : Beginning → RoomValue → RoomValue → RoomPass → List RoomPass → Result Bool RoomFault → Type 0
-RoundOr x old new p' others (Ok done) = IsCleanTurn x new p' × SealsAll old.room new.room × IsAhead state_of x p' × AllAhead x others × WholeRound x.seats old new × TellsNoneRetired new.room done
+RoundOr x old new p' others (Ok done) = IsCleanTurn x new p' × SealsAll old.room new.room × IsAhead state_of x p' × AllAhead x others × WholeRound x.seats old new × (published p' ≡ new.room.sealed) × TellsNoneRetired new.room done
 RoundOr x old new p' others (Err fault) = GoesOnAfter x new p' fault × StopsRound x.seats old new fault
 
--- rounds until nothing is retired
+-- rounds until nothing is retired, behind which the sealed epoch is published
 abbrev pub ClearsOr : Beginning → RoomValue → RoomValue → RoomPass → List RoomPass → Result (Unit {0}) RoomFault → Type 0
-ClearsOr x old new p' others (Ok done) = IsCleanTurn x new p' × Clears x.seats old new × IsAhead state_of x p' × AllAhead x others
+ClearsOr x old new p' others (Ok done) = IsCleanTurn x new p' × Clears x.seats old new × IsAhead state_of x p' × AllAhead x others × (published p' ≡ new.room.sealed)
 ClearsOr x old new p' others (Err fault) = GoesOnAfter x new p' fault × Stops x.seats old new fault
 
 -- ---- merging what was cleared
@@ -241,6 +241,8 @@ pub record MakesRoom (x : Beginning) (from : ℕ) (p p' : RoomPass) (r : Result 
   pub log : room_log room ≡ x.log
   pub stands : (e : ℕ) (first : List Row) → Began x.log e first → Stands room first e (seen p')
   pub makes : MakesOr x.seats from found room r
+  -- the published number that the pass knows is the sealed epoch
+  pub shown : IfOk r (λ made. published p' ≡ room.room.sealed)
   pub damage : OnDamage r (NotBegan x)
   pub meets : Failing r (MeetsSome x p p') (MeetsNone x p p')
 

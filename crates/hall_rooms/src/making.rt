@@ -6,7 +6,7 @@ ghost use lib.ListN.{get_elem?};
 ghost use Rattle.fine_model.specs.Jobs.{KeepsJob};
 ghost use Rattle.partition_hold.specs.Views.{state_of};
 ghost use Rattle.fine_places.specs.History as places;
-ghost use Rattle.fine_hall.specs.Passes.{LacksJob, LacksPlace};
+ghost use Rattle.fine_hall.specs.Passes.{LacksJob, LacksPlace, published};
 ghost use Rattle.fine_hall.specs.Halls.{IsAhead};
 ghost use Rattle.hall_rooms.specs.Rooms.{RoomPass, IsRoomPass, beginning_of};
 ghost use Rattle.hall_rooms.specs.declared.making.Space.TheVariants as space;
@@ -51,6 +51,7 @@ fn refresh_all<D: LogDisk>(
     ensures goes { StayInTurn hall.now pass.old pass.new others.old others.new }
     ensures turn { IsCleanTurn (beginning_of hall.now) room.now pass.new }
     ensures ahead { IsAhead state_of (beginning_of hall.now) pass.new × AllAhead (beginning_of hall.now) others.new }
+    ensures reaches { published pass.new ≤ room.now.room.sealed }
 {
     let _whole = room.counts();
     hall.refresh(pass);
@@ -67,7 +68,8 @@ fn erase_and_look<D: LogDisk>(room: &mut Room<D>) -> Result<bool, RoomFault>
     }
 }
 
-/// Seals what waits, posts a view of it to each seat, which the passes take, and erases what no view names. Answers whether nothing is retired.
+/// Seals what waits, posts a view of all live parts to each seat, also where nothing waited, and publishes the sealed epoch; the passes take their
+/// views, and what no view names is erased. Answers whether nothing is retired.
 ///
 /// Behind a refusal it stopped in sealing, in posting or in erasing, as `seal_and_post` and `settle_views` do.
 fn renew_and_erase<D: LogDisk>(
@@ -90,9 +92,11 @@ fn renew_and_erase<D: LogDisk>(
     }
 }
 
-/// Seals what waits, and renews the views of all passes and erases what none names until nothing is retired.
+/// Seals what waits, and renews the views of all passes and erases what none names until nothing is retired: some rounds, each of which left
+/// something retired, and one more. The sealed epoch is published then.
 ///
-/// Behind a refusal some rounds came to their end, each of which left something retired, and the next one stopped; nothing else was done.
+/// Behind a refusal some rounds came to their end, each of which left something retired, and the next one stopped; nothing else was done to the
+/// chain, the buffers of the board, and what is retired, free, lost or waits.
 fn clear<D: LogDisk, W: Wait>(
     rt: &W,
     hall: &RoomHall<D>,
@@ -134,6 +138,7 @@ fn clear_merged<D: LogDisk, W: Wait>(
     ensures no_job { room.new.room.job ≡ None }
     ensures turn { GoesOn (beginning_of hall.now) room.new pass.new result }
     ensures ahead { IfOk result (λ made. IsAhead state_of (beginning_of hall.now) pass.new × AllAhead (beginning_of hall.now) others.new) }
+    ensures shown { IfOk result (λ made. published pass.new ≡ room.new.room.sealed) }
     ensures clears { ClearsMergedOr (beginning_of hall.now).seats room.old room.new result }
 {
     match clear(rt, hall, pass, others, room) {
@@ -157,10 +162,12 @@ fn merge_cleared<D: LogDisk, W: Wait>(
     requires part { AreInTurn hall.now room.old pass.old others.old }
     requires cleared { IsCleared room.old }
     requires ahead { IsAhead state_of (beginning_of hall.now) pass.old × AllAhead (beginning_of hall.now) others.old }
+    requires shown { published pass.old ≡ room.old.room.sealed }
     ensures goes { StayInTurn hall.now pass.old pass.new others.old others.new }
     ensures no_job { room.new.room.job ≡ None }
     ensures turn { GoesOn (beginning_of hall.now) room.new pass.new result }
     ensures ahead { IfOk result (λ made. IsAhead state_of (beginning_of hall.now) pass.new × AllAhead (beginning_of hall.now) others.new) }
+    ensures shown { IfOk result (λ made. published pass.new ≡ room.new.room.sealed) }
     ensures merges { MergesClearedOr (beginning_of hall.now).seats from had_retired room.old room.new result }
     ensures damage { OnDamage result (NotBegan (beginning_of hall.now)) }
 {
@@ -193,6 +200,7 @@ fn clear_and_merge<D: LogDisk, W: Wait>(
     ensures no_job { room.new.room.job ≡ None }
     ensures turn { GoesOn (beginning_of hall.now) room.new pass.new result }
     ensures ahead { IfOk result (λ made. IsAhead state_of (beginning_of hall.now) pass.new × AllAhead (beginning_of hall.now) others.new) }
+    ensures shown { IfOk result (λ made. published pass.new ≡ room.new.room.sealed) }
     ensures makes { MakesOr (beginning_of hall.now).seats from room.old room.new result }
     ensures damage { OnDamage result (NotBegan (beginning_of hall.now)) }
 {
@@ -247,7 +255,8 @@ fn space_of(made: bool, free: u32) -> Space
 /// retired, and that is erased; then the first neighbours that fit are merged, through a view that is made for it, and in the same way the two
 /// are erased. Tried are first the neighbours of which the older one begins at an epoch or later, in chain order, and then those before it.
 ///
-/// After each answer that is Ok nothing waits, nothing is retired, no merge is out, and each region that is of no live part is free. `Made` where two
+/// After each answer that is Ok nothing waits, nothing is retired, no merge is out, each region that is of no live part is free, and the sealed epoch
+/// is published; clearing did some whole rounds of sealing, posting and erasing, at least one, and nothing is retired behind the last. `Made` where two
 /// were merged, or something was retired and no two fit. `Enough` and `Stuck` exactly where nothing was retired and no two neighbours fit what is
 /// free, by what a read of the disk gives: `Stuck` with fewer than two free regions, in the same turn.
 ///
@@ -255,7 +264,8 @@ fn space_of(made: bool, free: u32) -> Space
 /// was. After `NoMemory` it is open. After a refusal of a read it is cleared, and the chain is as it was then; a bad place is named only where the log at
 /// entry was not told, or not sound. After `Disk` and `NoMemory` it stopped in clearing, in merging once the room was cleared, or in clearing behind two that
 /// were merged, which may be retired still. Clearing that stopped did some whole rounds of sealing, posting and erasing, and of the next one what
-/// `seal_and_post` and `settle_views` leave behind such a refusal, and nothing else: the chain is as it was, or has one part more, of what waited.
+/// `seal_and_post` and `settle_views` leave behind such a refusal, and nothing else was done to the chain, the buffers of the board, and what is
+/// retired, free, lost or waits: the chain is as it was, or has one part more, of the epoch behind the last sealed one.
 ///
 /// It may wait for the room, and it goes on until nothing is retired. With all passes of the hall here two rounds of views are enough, since no other
 /// view is out then, which no clause says; where one is missing it waits until that one looked at its mailbox.

@@ -73,7 +73,7 @@ fn post_to_each<D: LogDisk>(
     Ok(())
 }
 
-/// Seals what waits, posts a view of it to each seat, and publishes it.
+/// Seals what waits, posts a view of all live parts to each seat, and publishes the sealed epoch, which it answers, also where nothing waited.
 pub(crate) fn show<D: LogDisk>(
     hall: &RoomHall<D>,
     pass: &mut Pass<View<D::Eye>>,

@@ -1,5 +1,5 @@
 -- What was cleared is merged, and cleared again.
-use Rattle.std.proofs.Common.{Ok, Err, arith, subst}
+use Rattle.std.proofs.Common.{Ok, Err, arith, sym, ◌∙◌, subst}
 use Rattle.hall_rooms.specs.Rooms.{beginning_of}
 use Rattle.hall_rooms.specs.Merging.{MergesThroughOr}
 use Rattle.hall_rooms.specs.Turning.{NotBegan}
@@ -28,6 +28,9 @@ returns-then-not-merged-clause-no_job g c = c.in-Ok.ensures.leaves.no_job
 pub returns-then-not-merged-clause-turn : goal.returns-then-not-merged-clause-turn
 returns-then-not-merged-clause-turn g c =
     goes_merged (beginning_of c.args.hall.now) c.args.from c.args.room.now c.merge_through.new.room c.args.pass.now c.requires.part.turn c.requires.cleared.no_job (Ok c.in-Ok.merged) c.in-Ok.ensures
+
+pub returns-then-not-merged-clause-shown : goal.returns-then-not-merged-clause-shown
+returns-then-not-merged-clause-shown g c = c.requires.shown ∙ sym c.in-Ok.ensures.leaves.epochs.0
 
 pub returns-then-not-merged-clause-merges : goal.returns-then-not-merged-clause-merges
 returns-then-not-merged-clause-merges g c =

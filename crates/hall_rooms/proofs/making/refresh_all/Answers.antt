@@ -1,4 +1,5 @@
 -- The pass of a turn and others look at their mailboxes.
+use Rattle.std.proofs.Common.{arith}
 use denote.Param.Send.{sendable}
 use Rattle.hall_rooms.specs.Rooms.{beginning_of}
 use Rattle.hall_rooms.proofs.Crossing.{bucket_send, in_hall_send}
@@ -28,3 +29,12 @@ returns-clause-turn g c =
     let p = c.args.pass.now in
     let q = c.refresh.new.pass in
     looked_clean x _ p q c.refresh.ensures.pass.0 c.args.room.now c.counts-whole.ensures.whole (looked x c.refresh.result p q c.refresh.ensures.pass.1 c.refresh.ensures.answer) (same_turn x c.refresh.result p q c.refresh.ensures.answer) c.requires.part.turn
+
+-- the board names the new front, which shows no epoch above the sealed one, and none below the published one
+pub returns-clause-reaches : goal.returns-clause-reaches
+returns-clause-reaches g c =
+    let t = c.requires.part.turn in
+    let named = (c.refresh.ensures.on_board t.note t.turn.held t.turn.is_turn).1 in
+    let ahead = c.refresh.ensures.ahead.reaches in
+    let top = t.turn.may.top in
+    omega (arith, named, ahead, top)

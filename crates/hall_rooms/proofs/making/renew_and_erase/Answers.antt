@@ -1,4 +1,5 @@
 -- One round: views are posted and taken, and what none names is erased.
+use Rattle.std.proofs.Common.{arith}
 use Rattle.hall_rooms.specs.Rooms.{beginning_of}
 use Rattle.fine_model.proofs.Histories.Goings.{job_on}
 use Rattle.hall_rooms.proofs.Clearing.{looks_job, round_goes, show_fails}
@@ -20,7 +21,7 @@ returns-in-Ok-clause-job g c =
 pub returns-in-Ok-clause-round : goal.returns-in-Ok-clause-round
 returns-in-Ok-clause-round g c =
     let x = beginning_of c.args.hall.now in
-    round_goes x c.args.room.now c.show.new.room c.erase_and_look.new.room c.refresh_all.new.others c.refresh_all.new.pass c.in-Ok.ensures.shows.3 c.in-Ok.ensures.shows.4 c.refresh_all.ensures.turn c.refresh_all.ensures.ahead.0 c.refresh_all.ensures.ahead.1
+    round_goes x c.args.room.now c.show.new.room c.erase_and_look.new.room c.refresh_all.new.others c.refresh_all.new.pass c.in-Ok.ensures.shows.3 c.in-Ok.ensures.shows.4 c.refresh_all.ensures.turn (let a = c.in-Ok.ensures.shows.1 in let b = c.in-Ok.ensures.shows.2 in let least = c.refresh_all.ensures.goes.goes.no_earlier in let most = c.refresh_all.ensures.reaches in omega (arith, a, b, least, most)) c.refresh_all.ensures.ahead.0 c.refresh_all.ensures.ahead.1
     c.erase_and_look.result c.erase_and_look.ensures
 
 pub returns-in-Err-clause-goes : goal.returns-in-Err-clause-goes

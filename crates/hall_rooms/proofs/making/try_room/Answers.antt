@@ -1,10 +1,11 @@
 -- A turn in which room is made, and it is told what came of it.
+use Rattle.std.proofs.Common.{◌∙◌}
 use Rattle.hall_rooms.specs.Rooms.{beginning_of}
 use Rattle.hall_rooms.proofs.GivenBack.{ahead_still, turn_added}
 use Rattle.hall_rooms.proofs.Made.{in_any_turn, makes_meet, seen_stands}
 use Rattle.hall_rooms.proofs.Merged.{none_out}
 use Rattle.hall_rooms.proofs.Renewing.{same_numbers}
-use Rattle.hall_rooms.proofs.Telling.{ahead_told}
+use Rattle.hall_rooms.proofs.Telling.{ahead_told, told_same}
 use Rattle.hall_rooms.proofs.Turned.{begun_with}
 use Rattle.hall_rooms.proofs.making.try_room.Goals as goal
 
@@ -59,6 +60,7 @@ returns-clause-tries g c =
         log = t.1.may.log;
         stands = seen_stands x new q r t.0 t.1 gave;
         makes = m.makes;
+        shown = told_same _ _ c.clear_and_merge-made.result (λ is. gave.same_published ∙ is) m.shown;
         damage = m.damage;
         meets = makes_meet x found new c.args.pass.now p₁ q r b m.goes.pass.1 c.end_turn.ensures.pass.1 m.goes.goes c.clear_and_merge-made.result m.turn gave;
       };

@@ -242,7 +242,7 @@ pub record MakesRoom (x : Beginning) (from : ℕ) (p p' : RoomPass) (r : Result 
   pub stands : (e : ℕ) (first : List Row) → Began x.log e first → Stands room first e (seen p')
   pub makes : MakesOr x.seats from found room r
   -- the published number that the pass knows is the sealed epoch
-  pub shown : IfOk r (λ made. published p' ≡ room.room.sealed)
+  pub publishes : IfOk r (λ made. published p' ≡ room.room.sealed)
   pub damage : OnDamage r (NotBegan x)
   pub meets : Failing r (MeetsSome x p p') (MeetsNone x p p')
 

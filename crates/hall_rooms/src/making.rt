@@ -138,7 +138,7 @@ fn clear_merged<D: LogDisk, W: Wait>(
     ensures no_job { room.new.room.job ≡ None }
     ensures turn { GoesOn (beginning_of hall.now) room.new pass.new result }
     ensures ahead { IfOk result (λ made. IsAhead state_of (beginning_of hall.now) pass.new × AllAhead (beginning_of hall.now) others.new) }
-    ensures shown { IfOk result (λ made. published pass.new ≡ room.new.room.sealed) }
+    ensures publishes { IfOk result (λ made. published pass.new ≡ room.new.room.sealed) }
     ensures clears { ClearsMergedOr (beginning_of hall.now).seats room.old room.new result }
 {
     match clear(rt, hall, pass, others, room) {
@@ -162,12 +162,12 @@ fn merge_cleared<D: LogDisk, W: Wait>(
     requires part { AreInTurn hall.now room.old pass.old others.old }
     requires cleared { IsCleared room.old }
     requires ahead { IsAhead state_of (beginning_of hall.now) pass.old × AllAhead (beginning_of hall.now) others.old }
-    requires shown { published pass.old ≡ room.old.room.sealed }
+    requires publishes { published pass.old ≡ room.old.room.sealed }
     ensures goes { StayInTurn hall.now pass.old pass.new others.old others.new }
     ensures no_job { room.new.room.job ≡ None }
     ensures turn { GoesOn (beginning_of hall.now) room.new pass.new result }
     ensures ahead { IfOk result (λ made. IsAhead state_of (beginning_of hall.now) pass.new × AllAhead (beginning_of hall.now) others.new) }
-    ensures shown { IfOk result (λ made. published pass.new ≡ room.new.room.sealed) }
+    ensures publishes { IfOk result (λ made. published pass.new ≡ room.new.room.sealed) }
     ensures merges { MergesClearedOr (beginning_of hall.now).seats from had_retired room.old room.new result }
     ensures damage { OnDamage result (NotBegan (beginning_of hall.now)) }
 {
@@ -200,7 +200,7 @@ fn clear_and_merge<D: LogDisk, W: Wait>(
     ensures no_job { room.new.room.job ≡ None }
     ensures turn { GoesOn (beginning_of hall.now) room.new pass.new result }
     ensures ahead { IfOk result (λ made. IsAhead state_of (beginning_of hall.now) pass.new × AllAhead (beginning_of hall.now) others.new) }
-    ensures shown { IfOk result (λ made. published pass.new ≡ room.new.room.sealed) }
+    ensures publishes { IfOk result (λ made. published pass.new ≡ room.new.room.sealed) }
     ensures makes { MakesOr (beginning_of hall.now).seats from room.old room.new result }
     ensures damage { OnDamage result (NotBegan (beginning_of hall.now)) }
 {

@@ -13,8 +13,8 @@ merge_cleared-requires-clause-cleared g c κs within = c.in-Ok.ensures.clears.1.
 pub merge_cleared-requires-clause-ahead : goal.merge_cleared-requires-clause-ahead
 merge_cleared-requires-clause-ahead g c κs within = (c.in-Ok.ensures.clears.2, c.in-Ok.ensures.clears.3)
 
-pub merge_cleared-requires-clause-shown : goal.merge_cleared-requires-clause-shown
-merge_cleared-requires-clause-shown g c κs within = c.in-Ok.ensures.clears.4
+pub merge_cleared-requires-clause-publishes : goal.merge_cleared-requires-clause-publishes
+merge_cleared-requires-clause-publishes g c κs within = c.in-Ok.ensures.clears.4
 
 pub returns-in-Ok-clause-goes : goal.returns-in-Ok-clause-goes
 returns-in-Ok-clause-goes g c = go_then c.args.hall.now c.args.pass.now c.clear.new.pass c.merge_cleared.new.pass c.args.others.now c.clear.new.others c.merge_cleared.new.others c.clear.ensures.goes c.merge_cleared.ensures.goes

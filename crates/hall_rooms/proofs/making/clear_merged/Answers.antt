@@ -10,8 +10,8 @@ returns-in-Ok-clause-turn g c = c.in-Ok.ensures.clears.0
 pub returns-in-Ok-clause-ahead : goal.returns-in-Ok-clause-ahead
 returns-in-Ok-clause-ahead g c = (c.in-Ok.ensures.clears.2, c.in-Ok.ensures.clears.3)
 
-pub returns-in-Ok-clause-shown : goal.returns-in-Ok-clause-shown
-returns-in-Ok-clause-shown g c = c.in-Ok.ensures.clears.4
+pub returns-in-Ok-clause-publishes : goal.returns-in-Ok-clause-publishes
+returns-in-Ok-clause-publishes g c = c.in-Ok.ensures.clears.4
 
 pub returns-in-Ok-clause-clears : goal.returns-in-Ok-clause-clears
 returns-in-Ok-clause-clears g c = (c.in-Ok.ensures.clears.1, refl)

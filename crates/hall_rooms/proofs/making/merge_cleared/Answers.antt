@@ -29,8 +29,8 @@ pub returns-then-not-merged-clause-turn : goal.returns-then-not-merged-clause-tu
 returns-then-not-merged-clause-turn g c =
     goes_merged (beginning_of c.args.hall.now) c.args.from c.args.room.now c.merge_through.new.room c.args.pass.now c.requires.part.turn c.requires.cleared.no_job (Ok c.in-Ok.merged) c.in-Ok.ensures
 
-pub returns-then-not-merged-clause-shown : goal.returns-then-not-merged-clause-shown
-returns-then-not-merged-clause-shown g c = c.requires.shown ∙ sym c.in-Ok.ensures.leaves.epochs.0
+pub returns-then-not-merged-clause-publishes : goal.returns-then-not-merged-clause-publishes
+returns-then-not-merged-clause-publishes g c = c.requires.publishes ∙ sym c.in-Ok.ensures.leaves.epochs.0
 
 pub returns-then-not-merged-clause-merges : goal.returns-then-not-merged-clause-merges
 returns-then-not-merged-clause-merges g c =

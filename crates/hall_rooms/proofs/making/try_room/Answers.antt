@@ -60,7 +60,7 @@ returns-clause-tries g c =
         log = t.1.may.log;
         stands = seen_stands x new q r t.0 t.1 gave;
         makes = m.makes;
-        shown = told_same _ _ c.clear_and_merge-made.result (λ is. gave.same_published ∙ is) m.shown;
+        publishes = told_same _ _ c.clear_and_merge-made.result (λ is. gave.same_published ∙ is) m.publishes;
         damage = m.damage;
         meets = makes_meet x found new c.args.pass.now p₁ q r b m.goes.pass.1 c.end_turn.ensures.pass.1 m.goes.goes c.clear_and_merge-made.result m.turn gave;
       };

@@ -203,20 +203,19 @@ pub record HasNoChain (still_told : Type 0) (what : Damage) (status : ℕ) (writ
   pub status_is : OneOf (1 ∷ 3 ∷ 4 ∷ 5 ∷ 6 ∷ 7 ∷ []) status
   pub printed : status ≡ 7 → written ≡ damage_line what
 
--- What `run` and `gen` are, as far as it matters here: their script, whether they read all at the end, the statuses that they may end with, and what
--- they print, with a status, of a run behind these parts with this history and this fault.
+-- What `run` and `gen` are, as far as it matters here: their script, the statuses that they may end with, and what they print, with a status, of a
+-- run behind these parts with this history and this fault.
 pub record Running : Type 1 where
   pub script : Result (List ScriptTxn) Refusal
-  pub reads_all : Type 0
   pub statuses : List ℕ
   pub prints : List Part → List Commit → Option RunFault → ℕ → List ℕ → Type 0
 
--- Damage of which a status 7 tells, of a log that is not sound: the chain's, or damage that is there behind the chain, or that the run's calls made of the nodes that are: its
--- line alone, where nothing was committed and the disk's clock stands still, or what was run, with the line.
+-- Damage of which a status 7 tells, of a log that is not sound: the chain's, or, where there is one, a place or a node, and nothing is said of
+-- which. Its line is printed alone, where nothing was committed and the disk's clock stands still, or behind what was run.
 abbrev pub PrintsDamage : Running → ℕ → Image → Return → List ℕ → Type 0
 PrintsDamage r region_len entry back written =
     (what : Damage) × IsUnsound region_len entry × (((chain region_len entry ≡ Err what) × (written ≡ damage_line what))
-    ⊎ ((parts : List Part) × (history : List Commit) × (chain region_len entry ≡ Ok parts) × IsDamageIn r.script r.reads_all history region_len entry parts what
+    ⊎ ((parts : List Part) × (history : List Commit) × (chain region_len entry ≡ Ok parts)
     × (((history ≡ []) × back.still × (written ≡ damage_line what)) ⊎ r.prints parts history (Some (run_fault.Damaged what)) 7 written)))
 
 -- what was run without a fault, behind the chain at entry
@@ -272,7 +271,7 @@ abbrev pub RunDamagedTheorem : Result (List ScriptTxn) Refusal → ℕ → Image
 RunDamagedTheorem script region_len entry back still_told status written = DamagedTheorem running region_len entry back still_told status written
   where
     running : Running
-    running = record { script = script; reads_all = ⊥; statuses = 0 ∷ 1 ∷ 3 ∷ 4 ∷ 5 ∷ 6 ∷ 7 ∷ 8 ∷ []; prints = Reports script }
+    running = record { script = script; statuses = 0 ∷ 1 ∷ 3 ∷ 4 ∷ 5 ∷ 6 ∷ 7 ∷ 8 ∷ []; prints = Reports script }
 
 -- ---- laws
 

@@ -24,7 +24,7 @@ pub use chain_laws::{
     behind_law, chain_law, closed_law, erased_law, free_law, freed_law, own_law, replace_law,
     rows_law, seal_law, tells_law,
 };
-pub use law::{BucketLaw, OpenedEye, Origin, RoomLaw, RoomState, ViewLaw, ViewState};
+pub use law::{BucketLaw, Moment, OpenedEye, Origin, RoomLaw, RoomState, Span, ViewLaw, ViewState};
 pub use laws::{
     agreement_law, agrees_law, calls_law, cut_law, damage_law, epochs_law, fit_law, fitting_law,
     keys_law, leaf_law, legal_law, map_law, mark_law, merge_law, merged_law, merged_run_law,

@@ -10,7 +10,7 @@ use Rattle.fine_model.specs.declared.RunFault.{RunFault}
 use Rattle.fine_model.specs.declared.RunFault.TheVariants as run_fault
 use Rattle.fine_model.specs.declared.ScriptTxn.{ScriptTxn}
 use Rattle.fine_model.specs.Chain.{Shows, chain, chain_end}
-use Rattle.fine_model.specs.Damages.{IsDamageIn, IsDurableFor, IsUnsound}
+use Rattle.fine_model.specs.Damages.{IsDurableFor, IsUnsound}
 use Rattle.fine_model.specs.Faults.{HasRisen, last_count}
 use Rattle.fine_model.specs.Headline.{Start, Return, IsDoneRun, IsRunWith, HasStatus, causes_of}
 use Rattle.fine_model.specs.History.{Commit}
@@ -59,20 +59,19 @@ DoneLaw =
     → HasStatus status (all_outcomes script ran.outcomes) ran.fault → (status ≡ 0) ⊎ (status ≡ 6) ⊎ (status ≡ 8)
     → IsDoneRun (start_of script old.disk e first) (return_of old.disk new.disk source output before after) status script (all_outcomes script ran.outcomes) ran.durable r.history
 
--- what holds of a run behind the parts of a chain, sound or not: what a report has beside its text, and what it may name as damaged
+-- what holds of a run behind the parts of a chain, sound or not: what a report has beside its text, and that it names damage on a log alone that is not sound
 pub record RunsBehind (script : List ScriptTxn) (region_len : ℕ) (before : Told) (parts : List Part) (ran : Ran) (history : List Commit) : Type 0 where
   pub outcomes : AreOutcomes script (chain_end parts) (all_outcomes script ran.outcomes) history
   pub durable : IsDurableFor parts history ran.fault ran.durable
   pub all_run : ran.fault ≡ None → AllRun (all_outcomes script ran.outcomes)
-  pub damage : (what : Damage) → ran.fault ≡ Some (run_fault.Damaged what) → IsDamageIn (Ok script) ⊥ history region_len before.bytes parts what
   pub unsound : (what : Damage) → ran.fault ≡ Some (run_fault.Damaged what) → IsUnsound region_len before.bytes
 
 -- on each log that the disk told at entry
 abbrev pub BehindLaw : Type 0
 BehindLaw =
-    (script : List ScriptTxn) (options : Options) (old new : RoomValue) (ran : Ran) (r : RunsLanes script options old new ran)
+    (script : List ScriptTxn) (options : Options) (old new : RoomValue) (ran : Ran) (r : RunsScript script options old new ran)
     (before : Told) (parts : List Part) → IsReady old → old.disk.told ≡ Some before → chain old.disk.region_len before.bytes ≡ Ok parts
-    → RunsBehind script old.disk.region_len before parts ran r.run.history
+    → RunsBehind script old.disk.region_len before parts ran r.history
 
 -- ---- on every disk, whatever it tells
 

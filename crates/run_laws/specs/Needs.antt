@@ -2,6 +2,7 @@
 use Rattle.std.specs.Prelude.{◌≡◌, ◌⊎◌, ℕ, ◌+◌, ◌<◌, ◌≤◌, ◌==◌, Bool, true, if◌then◌else◌, List, length, count_by, sum_by, find, Option, None, Some}
 use Rattle.fine_model.specs.declared.RunFault.{RunFault}
 use Rattle.fine_model.specs.declared.law.RoomState.{RoomState}
+use Rattle.fine_model.specs.Causes.{used_in}
 use Rattle.fine_model.specs.History.{Commit}
 use Rattle.fine_model.specs.Merge.{cost}
 use Rattle.fine_model.specs.RowBytes.{greatest, short_header}
@@ -9,10 +10,6 @@ use Rattle.epoch_room.specs.Value.{RoomValue}
 use Rattle.run_laws.specs.Lanes.{fault_of}
 
 -- ---- a history
-
--- the bytes that the rows of an epoch's entries take in its region, beside the header
-abbrev pub used_in : ℕ → List Commit → ℕ
-used_in e history = sum_by (λ c. if c.epoch == e then cost c.entry.rows else 0) history
 
 -- an epoch has a group of entries, or the rows of the next entry did not fit it any more
 abbrev pub HadNeed : ℕ → ℕ → List Commit → ℕ → Commit → Type 0

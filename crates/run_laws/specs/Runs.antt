@@ -2,29 +2,26 @@
 use Rattle.std.specs.Prelude.{◌≡◌, ◌⊎◌, ℕ, ◌+◌, ◌-◌, ◌<◌, ◌≤◌, ◌==◌, ◌&&◌, false, true, List, [], length, count_by, Option, Some, None, Ok}
 use Rattle.std.specs.List.{AllByRecursion, AllZip, list_all}
 use Rattle.log_disk.specs.Disk.{Told}
-use Rattle.fine_model.specs.declared.Call.{Call}
 use Rattle.fine_model.specs.declared.Damage.{Damage}
 use Rattle.fine_model.specs.declared.Options.{Options}
 use Rattle.fine_model.specs.declared.Outcome.{Outcome}
 use Rattle.fine_model.specs.declared.Part.{Part}
 use Rattle.fine_model.specs.declared.Ran.{Ran}
-use Rattle.fine_model.specs.declared.Reply.{Reply}
 use Rattle.fine_model.specs.declared.Row.{Row}
 use Rattle.fine_model.specs.declared.RunFault.{RunFault}
 use Rattle.fine_model.specs.declared.RunFault.TheVariants as run_fault
 use Rattle.fine_model.specs.declared.ScriptTxn.{ScriptTxn}
 use Rattle.fine_model.specs.Boards.{is_empty}
 use Rattle.fine_model.specs.Buckets.{Began}
-use Rattle.fine_model.specs.Causes.{HaveCauses}
+use Rattle.fine_model.specs.Causes.{HaveCauses, IsFullInNeed}
 use Rattle.fine_model.specs.Chain.{chain}
 use Rattle.fine_model.specs.Damages.{IsDamageIn}
 use Rattle.fine_model.specs.Faults.{HasRisen, last_count}
 use Rattle.fine_model.specs.History.{Commit, last_epoch}
-use Rattle.fine_model.specs.Map.{Pair}
 use Rattle.fine_model.specs.Outcomes.{AllRun, AreOutcomes, EpochsFollow, IsOneLane, lanes_not_run}
 use Rattle.fine_model.specs.Report.{all_outcomes}
 use Rattle.fine_model.specs.Room.{IsSealedUpTo}
-use Rattle.fine_model.specs.Store.{answer}
+use Rattle.fine_model.specs.Store.{IsReplyTo}
 use Rattle.epoch_room.specs.Meaning.{Stands, origin_of}
 use Rattle.epoch_room.specs.Value.{RoomValue}
 use Rattle.epoch_room.specs.Whole.{IsWhole}
@@ -86,19 +83,6 @@ pub record TellsFault (script : List ScriptTxn) (outcomes : List Outcome) (old n
   pub one_each : fault ≡ Some run_fault.Disk → ¬ OwnRose old new
       → OfSound old (λ first e. (lanes_not_run script outcomes ≤ new.disk.faults - old.disk.faults) ⊎ (last_count ≤ new.disk.faults))
 
--- what may be named as damaged, behind some transactions with their commits
-abbrev pub Names : Type 1
-Names = List ScriptTxn → List Commit → Damage → Type 0
-
--- anything, where nothing is asked of it
-abbrev pub any_damage : Names
-any_damage script history what = Unit {0}
-
--- what is damaged by the bytes at entry, on any log that the disk told then
-abbrev pub IsDamageAt : RoomValue → Names
-IsDamageAt old script history what = (before : Told) (parts : List Part) → old.disk.told ≡ Some before → chain old.room.region_len before.bytes ≡ Ok parts
-    → IsDamageIn (Ok script) ⊥ history old.room.region_len before.bytes parts what
-
 -- a run that is to leave all its commits durable: no fault ended it, or one that was neither want of memory nor a failure of the disk's own
 abbrev pub IsToSeal : RoomValue → RoomValue → Option RunFault → Type 0
 IsToSeal old new fault = (fault ≡ None) ⊎ ((fault ≡ Some run_fault.Memory → ⊥) × (OwnRose old new → ⊥))
@@ -111,15 +95,11 @@ IsNotBegun ran = (ran.fault ≡ Some run_fault.Memory) × (ran.outcomes ≡ [])
 abbrev pub AreFewOfLanes : ℕ → List Commit → Type 0
 AreFewOfLanes most history = (lane e : ℕ) → count_by (λ c. (c.entry.lane == lane) && (c.epoch == e)) history ≤ most
 
--- a reply that the store has to a call, on some map
-abbrev pub IsReplyTo : Call → Reply → Type 0
-IsReplyTo c r = (pairs : List Pair) × (r ≡ (answer pairs c).0)
-
 -- each call of a commit has its reply
 abbrev pub IsReplied : Commit → Type 0
 IsReplied c = AllZip IsReplyTo c.entry.calls c.entry.replies
 
--- The run, but for the words of damage. Its outcomes are those of one history, which the room was given, and each refusal has its cause. No clause names a
+-- The run. Its outcomes are those of one history, which the room was given, and each refusal has its cause. No clause names a
 -- thread, an order across lanes, a try or a merge. There is an outcome for each transaction, unless memory ran out before the first.
 pub record RunsScript (script : List ScriptTxn) (options : Options) (old new : RoomValue) (ran : Ran) : Type 0 where
   pub history : List Commit
@@ -129,19 +109,42 @@ pub record RunsScript (script : List ScriptTxn) (options : Options) (old new : R
   pub replied : AllByRecursion IsReplied history
   pub all_run : ran.fault ≡ None → AllRun (all_outcomes script ran.outcomes)
   pub few_each : AreFewOfLanes options.group history
-  -- one lane alone has no epoch sealed before a group is full, unless the rows of its next entry did not fit
-  pub in_need : IsOneLane script → AreSealedInNeed old.room.region_len options.group old.room.sealed history
+  -- on a sound log one lane alone has no epoch sealed before a group is full, unless the rows of its next entry did not fit
+  pub in_need : IsOneLane script → OfSound old (λ first e. AreSealedInNeed old.room.region_len options.group old.room.sealed history)
+  -- and neither has the epoch before its first refusal as full
+  pub last_need : IsOneLane script
+      → OfSound old (λ first e. IsFullInNeed old.room.region_len options.group old.room.sealed first script (all_outcomes script ran.outcomes) history)
   pub durable : ran.durable ≡ new.room.sealed
   pub all_durable : IsToSeal old new ran.fault → ran.durable ≡ last_epoch old.room.sealed history
   pub causes : (after : Told) → new.disk.told ≡ Some after
       → OfSound old (λ first e. HaveCauses old.room.region_len first after.bytes script (all_outcomes script ran.outcomes) history ran.durable)
   pub fault : TellsFault script (all_outcomes script ran.outcomes) old new ran.fault
 
--- with the damage that it names in these words, with the history that it committed
+-- What a run with this history says of its last seal. Whatever ended its lanes, all that was committed is durable, unless memory was wanting for this
+-- seal, or the disk's own count rose. Where memory was wanting, entries wait in the open epoch, which are not durable, and it is told.
+pub record SealsLast (old new : RoomValue) (ran : Ran) (history : List Commit) : Type 0 where
+  pub all_durable : ran.unsealed ≡ false → (OwnRose old new → ⊥) → ran.durable ≡ last_epoch old.room.sealed history
+  pub some_wait : ran.unsealed ≡ true → 1 ≤ new.room.waiting
+  pub memory_told : ran.unsealed ≡ true → ran.fault ≡ Some run_fault.Memory
+
+-- A run, and what it says of its last seal. Which place or node it names as damaged, no clause says.
+pub record RunsLanes (script : List ScriptTxn) (options : Options) (old new : RoomValue) (ran : Ran) : Type 0 where
+  pub run : RunsScript script options old new ran
+  pub open run use *
+  pub seals_last : SealsLast old new ran run.history
+
+-- ---- words of damage, as the body on one thread names it
+
+-- what may be named as damaged, behind some transactions with their commits
+abbrev pub Names : Type 1
+Names = List ScriptTxn → List Commit → Damage → Type 0
+
+-- what is damaged by the bytes at entry, on any log that the disk told then
+abbrev pub IsDamageAt : RoomValue → Names
+IsDamageAt old script history what = (before : Told) (parts : List Part) → old.disk.told ≡ Some before → chain old.room.region_len before.bytes ≡ Ok parts
+    → IsDamageIn (Ok script) ⊥ history old.room.region_len before.bytes parts what
+
+-- the run, with the damage that it names in these words, with the history that it committed
 pub record RunsBy (names : Names) (script : List ScriptTxn) (options : Options) (old new : RoomValue) (ran : Ran) : Type 0 where
   pub run : RunsScript script options old new ran
   pub damage : (what : Damage) → ran.fault ≡ Some (run_fault.Damaged what) → names script run.history what
-
--- the run, with the damage that the bytes at entry have
-abbrev pub RunsLanes : List ScriptTxn → Options → RoomValue → RoomValue → Ran → Type 0
-RunsLanes script options old new ran = RunsBy (IsDamageAt old) script options old new ran

@@ -5,7 +5,6 @@ use Rattle.log_disk.specs.Disk.{Told}
 use Rattle.fine_model.specs.declared.Damage.{Damage}
 use Rattle.fine_model.specs.declared.Options.{Options}
 use Rattle.fine_model.specs.declared.Outcome.{Outcome}
-use Rattle.fine_model.specs.declared.Part.{Part}
 use Rattle.fine_model.specs.declared.Ran.{Ran}
 use Rattle.fine_model.specs.declared.Row.{Row}
 use Rattle.fine_model.specs.declared.RunFault.{RunFault}
@@ -14,8 +13,6 @@ use Rattle.fine_model.specs.declared.ScriptTxn.{ScriptTxn}
 use Rattle.fine_model.specs.Boards.{is_empty}
 use Rattle.fine_model.specs.Buckets.{Began}
 use Rattle.fine_model.specs.Causes.{HaveCauses, IsFullInNeed}
-use Rattle.fine_model.specs.Chain.{chain}
-use Rattle.fine_model.specs.Damages.{IsDamageIn}
 use Rattle.fine_model.specs.Faults.{HasRisen, last_count}
 use Rattle.fine_model.specs.History.{Commit, last_epoch}
 use Rattle.fine_model.specs.Outcomes.{AllRun, AreOutcomes, EpochsFollow, IsOneLane, lanes_not_run}
@@ -132,19 +129,3 @@ pub record RunsLanes (script : List ScriptTxn) (options : Options) (old new : Ro
   pub run : RunsScript script options old new ran
   pub open run use *
   pub seals_last : SealsLast old new ran run.history
-
--- ---- words of damage, as the body on one thread names it
-
--- what may be named as damaged, behind some transactions with their commits
-abbrev pub Names : Type 1
-Names = List ScriptTxn → List Commit → Damage → Type 0
-
--- what is damaged by the bytes at entry, on any log that the disk told then
-abbrev pub IsDamageAt : RoomValue → Names
-IsDamageAt old script history what = (before : Told) (parts : List Part) → old.disk.told ≡ Some before → chain old.room.region_len before.bytes ≡ Ok parts
-    → IsDamageIn (Ok script) ⊥ history old.room.region_len before.bytes parts what
-
--- the run, with the damage that it names in these words, with the history that it committed
-pub record RunsBy (names : Names) (script : List ScriptTxn) (options : Options) (old new : RoomValue) (ran : Ran) : Type 0 where
-  pub run : RunsScript script options old new ran
-  pub damage : (what : Damage) → ran.fault ≡ Some (run_fault.Damaged what) → names script run.history what

@@ -1,5 +1,5 @@
 -- The body on one thread, after some transactions, and at its end.
-use Rattle.std.specs.Prelude.{◌≡◌, ◌≢◌, ◌⊎◌, ℕ, ◌+◌, ◌-◌, ◌<◌, ◌≤◌, ◌==◌, ◌&&◌, min, Bool, true, false, is_some, List, [], ◌∷◌, ◌++◌, length, take, replicate, count_by, slice_get, slice_set, Option, Some, None, Contains}
+use Rattle.std.specs.Prelude.{◌≡◌, ◌≢◌, ◌⊎◌, ℕ, ◌+◌, ◌-◌, ◌<◌, ◌≤◌, ◌==◌, ◌&&◌, min, Bool, true, false, is_some, List, [], ◌∷◌, ◌++◌, length, take, replicate, count_by, slice_get, slice_set, Option, Some, None, Ok, Contains}
 use Rattle.std.specs.List.{AllByRecursion, AllZip, list_all}
 use Rattle.fine_model.specs.declared.Damage.{Damage}
 use Rattle.fine_model.specs.declared.Options.{Options}
@@ -10,22 +10,25 @@ use Rattle.fine_model.specs.declared.RunFault.{RunFault}
 use Rattle.fine_model.specs.declared.RunFault.TheVariants as run_fault
 use Rattle.fine_model.specs.declared.ScriptTxn.{ScriptTxn}
 use Rattle.fine_model.specs.declared.Why.{Why}
+use Rattle.fine_model.specs.declared.Why.TheVariants as why
 use Rattle.fine_model.specs.declared.law.Origin.{Origin}
 use Rattle.fine_model.specs.declared.law.RoomState.{RoomState}
 use Rattle.fine_model.specs.Becomes.{Becomes, IsStuck}
 use Rattle.fine_model.specs.Boards.{is_empty}
+use Rattle.fine_model.specs.Causes.{IsFullInNeed}
 use Rattle.fine_model.specs.Faults.{HasRisen, last_count}
 use Rattle.fine_model.specs.History.{Commit, all_rows}
 use Rattle.fine_model.specs.Outcomes.{IsOneLane, IsOutcomeOf}
+use Rattle.fine_model.specs.Pushed.{all_pushed}
 use Rattle.fine_model.specs.RowBytes.{greatest}
 use Rattle.epoch_room.specs.Meaning.{origin_of}
 use Rattle.epoch_room.specs.Value.{RoomValue}
 use Rattle.partition_hold.specs.Views.{ViewValue}
 use Rattle.room_shelf.specs.Shelves.{IsShelf, shelf, total}
 use Rattle.run_laws.specs.Lanes.{EndsLane, HaveEnded, IsLane, fault_of, first_fault, lanes_failed, most_lanes, none_ended}
-use Rattle.run_laws.specs.Needs.{AreSealedInNeed, RunsInNeed}
-use Rattle.run_laws.specs.Runs.{AreFewOfLanes, HasHistory, IsReady, IsReplied, Names, OfSound, OwnRose, RunsBy}
-use Rattle.run_laws.specs.Turns.{AreNumbered, AreRefused, EndsLanes, RefusesBehind, commits_of}
+use Rattle.run_laws.specs.Needs.{AreSealedInNeed, HadNeedBefore, HasNoRegion, RunsInNeed}
+use Rattle.run_laws.specs.Runs.{AreFewOfLanes, HasHistory, IsReady, IsReplied, OfSound, OwnRose, RunsScript}
+use Rattle.run_laws.specs.Turns.{AreNumbered, AreRefused, EndsLanes, NoneBehindFull, RefusesBehind, commit_of, commits_of}
 
 -- ---- the outcomes
 
@@ -73,6 +76,21 @@ LaneEndsLaw =
     (script : List ScriptTxn) (i : ℕ) (done : List Outcome) (ended after : List (Option RunFault)) (lane : ℕ) (fault : RunFault) → ((j : ℕ) (txn : ScriptTxn) → slice_get script j ≡ Some txn → 1 ≤ txn.lane)
     → EndsLane ended after lane fault → AreSoFar script i done ended → AreSoFar script i done after
 
+-- ---- the flag of a full log
+
+-- It is set where some transaction was refused as full, and nothing was committed after that one.
+pub record FullEnds (done : List Outcome) (full : Bool) : Type 0 where
+  pub known : (i : ℕ) → slice_get done i ≡ Some (outcome.Refused why.Full) → full ≡ true
+  pub some : full ≡ true → (i : ℕ) × (slice_get done i ≡ Some (outcome.Refused why.Full))
+  pub none_behind : NoneBehindFull done
+
+-- As a transaction comes to its end, the flag stays where it is set, it is set by a refusal as full alone, and where it was set nothing is committed.
+pub record KeepsFlag (old new : Bool) (next : Outcome) : Type 0 where
+  pub stays : old ≡ true → new ≡ true
+  pub sets : next ≡ outcome.Refused why.Full → new ≡ true
+  pub only : new ≡ true → (old ≡ true) ⊎ (next ≡ outcome.Refused why.Full)
+  pub none : old ≡ true → commit_of next ≡ None
+
 -- ---- the room
 
 -- it goes on from the entry, with these commits
@@ -104,10 +122,6 @@ pub record AreTold (entry room : RoomValue) (count : ℕ) (ended told : List (Op
   pub shut : room.room.is_shut ≡ true → Contains told (Some run_fault.Disk) ⊎ Contains told (Some run_fault.Memory)
   pub unsound : (what : Damage) → Contains told (Some (run_fault.Damaged what)) → OfSound entry (λ first e. ⊥)
 
--- what these faults name as damaged, behind these transactions with their commits
-abbrev pub AreNamed : Names → List ScriptTxn → List (Option RunFault) → List Commit → Type 0
-AreNamed names script told history = (what : Damage) → Contains told (Some (run_fault.Damaged what)) → names script history what
-
 -- ---- all of it
 
 -- the room, the view that is out for loading, the buckets, the flag that the log is stuck, how each lane ended, and the outcomes
@@ -119,8 +133,8 @@ pub record Serial (B : Type 0) : Type 0 where
   pub ended : List (Option RunFault)
   pub outcomes : List Outcome
 
--- After i transactions, with buckets of any kind, as they stand together for a history on a log while an epoch is published, and with damage in any words.
-module _ {B : Type 0} (stands_for : Origin → ℕ → B → List Commit → Type 0) (names : Names) where
+-- After i transactions, with buckets of any kind, as they stand together for a history on a log while an epoch is published.
+module _ {B : Type 0} (stands_for : Origin → ℕ → B → List Commit → Type 0) where
   pub record SoFar (script : List ScriptTxn) (options : Options) (i : ℕ) (entry : RoomValue) (s : Serial B) : Type 0 where
     pub done : List Outcome
     pub outcomes_are : s.outcomes ≡ done ++ replicate (length script - i) outcome.NotRun
@@ -128,8 +142,12 @@ module _ {B : Type 0} (stands_for : Origin → ℕ → B → List Commit → Typ
     pub goes_on : GoesOn entry s.room (commits_of done)
     pub few : AreFewSoFar options.group s.room.room.sealed s.ended (commits_of done)
     pub in_need : (lane : ℕ) → AllByRecursion (λ txn. txn.lane ≡ lane) script → RunsInNeed options.group lane entry s.room s.full s.ended (commits_of done)
+    -- the first that was refused as full has its need
+    pub last_need : (lane : ℕ) → AllByRecursion (λ txn. txn.lane ≡ lane) script
+        → OfSound entry (λ first e. IsFullInNeed entry.room.region_len options.group entry.room.sealed first script done (commits_of done))
+    pub full_ends : FullEnds done s.full
+    pub no_region : s.full ≡ true → HasNoRegion s.room.room
     pub told : AreTold entry s.room (total (shelf s.room s.view)) s.ended s.ended
-    pub named : AreNamed names (take i script) s.ended (commits_of done)
     pub refused : OfSound entry (λ first e. AreRefused script done s.room.room first)
     pub stuck : s.full ≡ true → OfSound entry (λ first e. IsStuck s.room.room)
     pub view : IsShelf s.room.room s.view
@@ -143,8 +161,12 @@ module _ {B : Type 0} (stands_for : Origin → ℕ → B → List Commit → Typ
     pub goes_on : GoesOn entry new.room (commits_of done ++ commits_of (next ∷ []))
     pub few : AreFewSoFar options.group new.room.room.sealed new.ended (commits_of done ++ commits_of (next ∷ []))
     pub in_need : RunsInNeed options.group txn.lane entry old.room old.full old.ended (commits_of done) → RunsInNeed options.group txn.lane entry new.room new.full new.ended (commits_of done ++ commits_of (next ∷ []))
+    pub full_need : next ≡ outcome.Refused why.Full → old.full ≡ false → RunsInNeed options.group txn.lane entry old.room old.full old.ended (commits_of done)
+        → OfSound entry (λ first e. (rows : List Row) → all_pushed (first ++ all_rows (commits_of done)) txn.calls ≡ Ok rows
+            → HadNeedBefore entry.room.region_len options.group entry.room.sealed (commits_of done) rows)
+    pub flag : KeepsFlag old.full new.full next
+    pub no_region : new.full ≡ true → HasNoRegion new.room.room
     pub told : AreTold entry new.room (total (shelf new.room new.view)) new.ended new.ended
-    pub named : AreNamed names (take i script ++ txn ∷ []) new.ended (commits_of done ++ commits_of (next ∷ []))
     pub becomes : Becomes old.room.room new.room.room
     pub most : new.room.room.sealed ≤ greatest
     pub refused : (word : Why) → next ≡ outcome.Refused word → OfSound entry (λ first e. RefusesBehind new.room.room (first ++ all_rows (commits_of done)) txn.calls word)
@@ -165,36 +187,36 @@ module _ {B : Type 0} (stands_for : Origin → ℕ → B → List Commit → Typ
       → IsStep script options i entry s.done txn next old new → SoFar script options (i + 1) entry new
 
 -- what is done behind the last transaction: the view is taken back, and what waits is sealed, unless the room is shut
-pub record IsEnd (names : Names) (script : List ScriptTxn) (entry old room : RoomValue) (done : List Outcome) (ended told : List (Option RunFault)) : Type 0 where
+pub record IsEnd (entry old room : RoomValue) (done : List Outcome) (ended told : List (Option RunFault)) : Type 0 where
   pub goes_on : GoesOn entry room (commits_of done)
   pub tells : AreTold entry room room.disk.faults ended told
-  pub named : AreNamed names script told (commits_of done)
   pub becomes : Becomes old.room room.room
   pub most : room.room.sealed ≤ greatest
   pub board : list_all is_empty room.room.board ≡ true
   pub sealed : room.room.is_shut ≡ false → ¬ Contains told (Some run_fault.Memory) → room.room.waiting ≡ 0
 
 -- At the end: the view was taken back, and what waited was sealed, unless the room is shut; `told` has the fault of this last seal too.
-pub record Finished (names : Names) (script : List ScriptTxn) (options : Options) (entry room : RoomValue) (done : List Outcome) (ended told : List (Option RunFault)) : Type 0 where
+pub record Finished (script : List ScriptTxn) (options : Options) (entry room : RoomValue) (done : List Outcome) (ended told : List (Option RunFault)) : Type 0 where
   pub so_far : AreSoFar script (length script) done ended
   pub goes_on : GoesOn entry room (commits_of done)
   pub few : AreFewOfLanes options.group (commits_of done)
   pub in_need : IsOneLane script → AreSealedInNeed entry.room.region_len options.group entry.room.sealed (commits_of done)
+  pub last_need : IsOneLane script → OfSound entry (λ first e. IsFullInNeed entry.room.region_len options.group entry.room.sealed first script done (commits_of done))
+  pub none_behind : NoneBehindFull done
   pub tells : AreTold entry room room.disk.faults ended told
-  pub named : AreNamed names script told (commits_of done)
   pub refused : OfSound entry (λ first e. AreRefused script done room.room first)
   pub board : list_all is_empty room.room.board ≡ true
   pub sealed : room.room.is_shut ≡ false → ¬ Contains told (Some run_fault.Memory) → room.room.waiting ≡ 0
 
 -- so it has where these are done
-module _ {B : Type 0} (stands_for : Origin → ℕ → B → List Commit → Type 0) (names : Names) where
+module _ {B : Type 0} (stands_for : Origin → ℕ → B → List Commit → Type 0) where
   abbrev pub EndsLaw : Type 0
   EndsLaw =
-      (script : List ScriptTxn) (options : Options) (entry : RoomValue) (s : Serial B) (room : RoomValue) (told : List (Option RunFault)) (so_far : SoFar stands_for names script options (length script) entry s)
-      → IsEnd names script entry s.room room so_far.done s.ended told → Finished names script options entry room so_far.done s.ended told
+      (script : List ScriptTxn) (options : Options) (entry : RoomValue) (s : Serial B) (room : RoomValue) (told : List (Option RunFault)) (so_far : SoFar stands_for script options (length script) entry s)
+      → IsEnd entry s.room room so_far.done s.ended told → Finished script options entry room so_far.done s.ended told
 
 -- then it was a run
-abbrev pub FinishedLaw : Names → Type 0
-FinishedLaw names =
-    (script : List ScriptTxn) (options : Options) (entry room : RoomValue) (done : List Outcome) (ended told : List (Option RunFault)) (unsealed : Bool) → IsReady entry → Finished names script options entry room done ended told
-    → RunsBy names script options entry room (record { outcomes = done; durable = room.room.sealed; fault = first_fault told; unsealed = unsealed })
+abbrev pub FinishedLaw : Type 0
+FinishedLaw =
+    (script : List ScriptTxn) (options : Options) (entry room : RoomValue) (done : List Outcome) (ended told : List (Option RunFault)) (unsealed : Bool) → IsReady entry → Finished script options entry room done ended told
+    → RunsScript script options entry room (record { outcomes = done; durable = room.room.sealed; fault = first_fault told; unsealed = unsealed })

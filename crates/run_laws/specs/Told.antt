@@ -1,19 +1,15 @@
 -- What faults of the body on one thread tell, step by step.
 use Rattle.std.specs.Prelude.{◌≡◌, ◌⊎◌, ℕ, ◌+◌, ◌-◌, ◌≤◌, min, true, if◌then◌else◌, List, [], ◌∷◌, ◌++◌, length, slice_set, Option, Some, None, Ok, Contains}
-use Rattle.std.specs.List.{AllByRecursion}
 use Rattle.fine_model.specs.declared.Damage.{Damage}
-use Rattle.fine_model.specs.declared.Part.{Part}
 use Rattle.fine_model.specs.declared.RunFault.{RunFault}
 use Rattle.fine_model.specs.declared.RunFault.TheVariants as run_fault
-use Rattle.fine_model.specs.declared.ScriptTxn.{ScriptTxn}
-use Rattle.fine_model.specs.Damages.{IsDamageIn}
 use Rattle.fine_model.specs.Faults.{HasRisen, last_count}
 use Rattle.fine_model.specs.History.{Commit}
 use Rattle.epoch_room.specs.Value.{RoomValue}
 use Rattle.room_shelf.specs.Shelves.{IsCountOf}
 use Rattle.run_laws.specs.Lanes.{IsLane, fault_of, is_disk, lanes_failed, most_lanes, with_last}
-use Rattle.run_laws.specs.Runs.{IsDamageAt, IsReady, Names, OfSound}
-use Rattle.run_laws.specs.SoFar.{AreNamed, AreTold, GoesOn}
+use Rattle.run_laws.specs.Runs.{IsReady, OfSound}
+use Rattle.run_laws.specs.SoFar.{AreTold, GoesOn}
 
 -- one fault more is told, and no other
 pub record TellsMore (old new : List (Option RunFault)) (fault : RunFault) : Type 0 where
@@ -56,31 +52,3 @@ abbrev pub ToldMore : Type 0
 ToldMore =
     (entry old new : RoomValue) (count now : ℕ) (ended after told more : List (Option RunFault)) (history : List Commit) (fault : RunFault) → IsReady entry
     → AreTold entry old count ended told → ToldOne entry old new count now ended after told more history fault → AreTold entry new now after more
-
--- ---- what is named as damaged
-
--- with a fault more: where this is damage, it is named in these words too
-abbrev pub NamedMore : Names → Type 0
-NamedMore names =
-    (script : List ScriptTxn) (told more : List (Option RunFault)) (history : List Commit) (fault : RunFault) → TellsMore told more fault → ((what : Damage) → fault ≡ run_fault.Damaged what → names script history what)
-    → AreNamed names script told history → AreNamed names script more history
-
--- Words that stay behind the next transaction, whether it was committed or not.
-abbrev pub AreLasting : Names → Type 0
-AreLasting names =
-    (script : List ScriptTxn) (txn : ScriptTxn) (history more : List Commit) (what : Damage) → AllByRecursion (λ c. c.entry.turn ≡ length script + 1) more → names script history what
-    → names (script ++ txn ∷ []) (history ++ more) what
-
-abbrev pub NamedNext : Names → Type 0
-NamedNext names =
-    AreLasting names → (script : List ScriptTxn) (txn : ScriptTxn) (told : List (Option RunFault)) (history more : List Commit) → AllByRecursion (λ c. c.entry.turn ≡ length script + 1) more
-    → AreNamed names script told history → AreNamed names (script ++ txn ∷ []) told (history ++ more)
-
--- those of the bytes at entry do, on one log and where the disk told it
-abbrev pub DamageStays : Type 0
-DamageStays =
-    (script : List ScriptTxn) (txn : ScriptTxn) (history more : List Commit) (region_len : ℕ) (image : List (List ℕ)) (parts : List Part) (what : Damage) → AllByRecursion (λ c. c.entry.turn ≡ length script + 1) more
-    → IsDamageIn (Ok script) ⊥ history region_len image parts what → IsDamageIn (Ok (script ++ txn ∷ [])) ⊥ (history ++ more) region_len image parts what
-
-abbrev pub DamageLasts : Type 0
-DamageLasts = (entry : RoomValue) → AreLasting (IsDamageAt entry)

@@ -13,7 +13,7 @@ use Rattle.fine_model.specs.Becomes.{Becomes, IsStuck}
 use Rattle.fine_model.specs.Causes.{HaveCauses}
 use Rattle.fine_model.specs.History.{Commit, all_rows, upto}
 use Rattle.fine_model.specs.Merge.{cost}
-use Rattle.fine_model.specs.Outcomes.{AreOutcomes, EpochsFollow, InLaneOrder, IsOutcomeOf}
+use Rattle.fine_model.specs.Outcomes.{AreOutcomes, EpochsFollow, InLaneOrder, IsCommittedAt, IsOutcomeOf}
 use Rattle.fine_model.specs.Pushed.{all_pushed}
 use Rattle.fine_model.specs.Regions.{Image}
 use Rattle.fine_model.specs.Room.{HoldsLive, IsSealedUpTo}
@@ -36,6 +36,10 @@ AreNumbered turn place (_ ∷ outcomes) = AreNumbered (turn + 1) place outcomes
 -- what a lane did not run are its last transactions
 abbrev pub EndsLanes : List ScriptTxn → List Outcome → Type 0
 EndsLanes script outcomes = (i j : ℕ) → InLaneOrder script i j → slice_get outcomes i ≡ Some outcome.NotRun → slice_get outcomes j ≡ Some outcome.NotRun
+
+-- nothing is committed after a transaction that is refused as full
+abbrev pub NoneBehindFull : List Outcome → Type 0
+NoneBehindFull outcomes = (i j place : ℕ) (c : Commit) → i < j → slice_get outcomes i ≡ Some (outcome.Refused why.Full) → IsCommittedAt outcomes j place c → ⊥
 
 -- Where transactions are run one after another, in the order of the script, their outcomes are those of the history of their commits.
 abbrev pub InTurnLaw : Type 0
@@ -64,6 +68,6 @@ pub record AreRefused (script : List ScriptTxn) (outcomes : List Outcome) (room 
 abbrev pub CausesLaw : Type 0
 CausesLaw =
     (script : List ScriptTxn) (outcomes : List Outcome) (room : RoomState) (image : Image) (first : List Row) (e : ℕ) → AreNumbered 0 0 outcomes → AreRefused script outcomes room first
-    → EpochsFollow e (commits_of outcomes) → IsSealedUpTo e (commits_of outcomes) room.sealed → room.waiting ≡ count_by (λ c. c.epoch == room.sealed + 1) (commits_of outcomes)
+    → NoneBehindFull outcomes → EpochsFollow e (commits_of outcomes) → IsSealedUpTo e (commits_of outcomes) room.sealed → room.waiting ≡ count_by (λ c. c.epoch == room.sealed + 1) (commits_of outcomes)
     → room.image ≡ Some image → HoldsLive room image (first ++ all_rows (upto (commits_of outcomes) room.sealed))
     → HaveCauses room.region_len first image script outcomes (commits_of outcomes) room.sealed

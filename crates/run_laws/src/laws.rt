@@ -1,8 +1,6 @@
 //! Laws of runs, each the contract of a function that does nothing.
 
 ghost use Rattle.std.specs.Prelude.{List, ℕ};
-ghost use Rattle.fine_model.specs.declared.Damage.{Damage};
-ghost use Rattle.fine_model.specs.declared.ScriptTxn.{ScriptTxn};
 ghost use Rattle.fine_model.specs.declared.law.Origin.{Origin};
 ghost use Rattle.fine_model.specs.History.{Commit};
 ghost use Rattle.run_laws.specs.Going.{CommitsLaw, FewEnd, FewLess, FewMore, FewWait, FullLaw, LaterLaw, NeedCommits, NeedEnds, NeedSealed, NeedStays, NeedStill, SealsLaw, StaysLaw};
@@ -10,17 +8,12 @@ ghost use Rattle.run_laws.specs.Lanes.{CutShortLaw};
 ghost use Rattle.run_laws.specs.Law.{BehindLaw, DoneLaw, NothingLaw, ReadyLaw, RunLaw, StatusLaw};
 ghost use Rattle.run_laws.specs.Reading.{LegalLaw, SeesLaw, UnsoundLaw};
 ghost use Rattle.run_laws.specs.SoFar.{BeginsLaw, EndsLaw, FinishedLaw, LaneEndsLaw, NextLaw, RefusedNext, SetsLaw, StepsLaw};
-ghost use Rattle.run_laws.specs.Told.{DamageLasts, DamageStays, MoreBeside, MoreByLane, NamedMore, NamedNext, ToldMore, ToldStays};
+ghost use Rattle.run_laws.specs.Told.{MoreBeside, MoreByLane, ToldMore, ToldStays};
 ghost use Rattle.run_laws.specs.Turns.{CausesLaw, InTurnLaw, StaysRefused};
 
 /// The buckets of a body together: that they stand for a history on a log, while an epoch is published.
 pub trait BucketsLaw {
     ghost stand_for: { Origin → ℕ → Self → List Commit → Type 0 };
-}
-
-/// Words of damage: what may be named as damaged, behind some transactions with their commits.
-pub trait NamesLaw {
-    ghost names: { List ScriptTxn → List Commit → Damage → Type 0 };
 }
 
 /// On a room that was just made of a log a run may begin.
@@ -35,7 +28,7 @@ pub fn run_law()
     ensures done { DoneLaw }
 {}
 
-/// On each log that the disk told at entry, sound or not, a run of lanes has what a report says beside its text, and names no damage that is not there.
+/// On each log that the disk told at entry, sound or not, a run of lanes has what a report says beside its text, and names damage only where this log is not sound.
 pub fn behind_law()
     ensures { BehindLaw }
 {}
@@ -122,27 +115,15 @@ pub fn told_law()
     ensures beside { MoreBeside }
 {}
 
-/// What faults name as damaged (`AreNamed`), in any words: with a fault more, and, where the words last, behind the next transaction.
-pub fn named_law<N: NamesLaw>()
-    ensures more { NamedMore N.names }
-    ensures next { NamedNext N.names }
-{}
-
-/// The words of damage by the bytes at entry last.
-pub fn damage_law()
-    ensures stays { DamageStays }
-    ensures lasts { DamageLasts }
-{}
-
-/// The body on one thread, with buckets of any kind, and with damage in any words: it begins on a room that is ready, the step of each transaction keeps what holds of it, and it has
+/// The body on one thread, with buckets of any kind: it begins on a room that is ready, the step of each transaction keeps what holds of it, and it has
 /// finished where the view was taken back behind the last one, and what waited was sealed.
-pub fn body_law<B: BucketsLaw, N: NamesLaw>()
-    ensures begins { BeginsLaw B.stand_for N.names }
-    ensures steps { StepsLaw B.stand_for N.names }
-    ensures ends { EndsLaw B.stand_for N.names }
+pub fn body_law<B: BucketsLaw>()
+    ensures begins { BeginsLaw B.stand_for }
+    ensures steps { StepsLaw B.stand_for }
+    ensures ends { EndsLaw B.stand_for }
 {}
 
-/// Where the body on one thread has finished, what it leaves is a run, with damage in the same words.
-pub fn finished_law<N: NamesLaw>()
-    ensures { FinishedLaw N.names }
+/// Where the body on one thread has finished, what it leaves is a run.
+pub fn finished_law()
+    ensures { FinishedLaw }
 {}

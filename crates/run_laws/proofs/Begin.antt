@@ -7,6 +7,7 @@ use Rattle.fine_model.specs.declared.Outcome.TheVariants as outcome
 use Rattle.fine_model.specs.declared.RunFault.{RunFault}
 use Rattle.fine_model.specs.declared.RunFault.TheVariants as run_fault
 use Rattle.fine_model.specs.declared.ScriptTxn.{ScriptTxn}
+use Rattle.fine_model.specs.declared.Why.TheVariants as why
 use Rattle.fine_model.specs.declared.law.Origin.{Origin}
 use Rattle.fine_model.specs.Faults.{last_count}
 use Rattle.fine_model.specs.History.{Commit}
@@ -14,7 +15,7 @@ use Rattle.fine_model.proofs.Histories.Goings.{becomes_itself}
 use Rattle.epoch_room.specs.Meaning.{origin_of}
 use Rattle.epoch_room.specs.Value.{RoomValue}
 use Rattle.run_laws.specs.Lanes.{none_ended}
-use Rattle.run_laws.specs.Runs.{IsReady, Names}
+use Rattle.run_laws.specs.Runs.{IsReady}
 use Rattle.run_laws.specs.SoFar.{SoFar}
 use Rattle.run_laws.proofs.Nothing.{has_none}
 
@@ -35,9 +36,9 @@ at_least a = omega arith
 none_out : (a m : ℕ) → min a m ≤ a + 0
 none_out a m = grind arith
 
-module _ {B : Type 0} (stands_for : Origin → ℕ → B → List Commit → Type 0) (names : Names) (script : List ScriptTxn) (options : Options) (entry : RoomValue) (buckets : B) (ready : IsReady entry) (group : 1 ≤ options.group)
+module _ {B : Type 0} (stands_for : Origin → ℕ → B → List Commit → Type 0) (script : List ScriptTxn) (options : Options) (entry : RoomValue) (buckets : B) (ready : IsReady entry) (group : 1 ≤ options.group)
     (stand : stands_for (origin_of entry.entry) entry.room.sealed buckets []) where
-  pub begins : SoFar stands_for names script options 0 entry (record { room = entry; view = None; buckets = buckets; full = false; ended = none_ended; outcomes = replicate (length script) outcome.NotRun })
+  pub begins : SoFar stands_for script options 0 entry (record { room = entry; view = None; buckets = buckets; full = false; ended = none_ended; outcomes = replicate (length script) outcome.NotRun })
   begins = record {
     done = [];
     outcomes_are = let same : length script ≡ length script - 0 = omega arith in ap (λ n. replicate n outcome.NotRun) same;
@@ -62,6 +63,13 @@ module _ {B : Type 0} (stands_for : Origin → ℕ → B → List Commit → Typ
       };
       ends = λ none waits above. absurd (omega (arith, above));
     };
+    last_need = λ lane all first e began stands i txn rows is at pushed. inl refl;
+    full_ends = record {
+      known = λ i is. nothing_at i (outcome.Refused why.Full) is;
+      some = λ is. absurd (let e : false ≡ true = is in cc);
+      none_behind = λ i j place c before is is_c. nothing_at i (outcome.Refused why.Full) is;
+    };
+    no_region = λ is. absurd (let e : false ≡ true = is in cc);
     told = record {
       lanes = refl;
       low = none_out entry.disk.faults last_count;
@@ -72,7 +80,6 @@ module _ {B : Type 0} (stands_for : Origin → ℕ → B → List Commit → Typ
       shut = λ is. absurd (let e : false ≡ true = sym ready.not_shut ∙ is in cc);
       unsound = λ what there. absurd (only_none 16 (run_fault.Damaged what) there);
     };
-    named = λ what there. absurd (only_none 16 (run_fault.Damaged what) there);
     refused = λ first e began stands. record { each = λ i txn word is_txn is. nothing_at i (outcome.Refused word) is };
     stuck = λ is. absurd (let e : false ≡ true = is in cc);
     view = ready.board;

@@ -15,7 +15,7 @@ use Rattle.fine_model.specs.declared.ScriptTxn.{ScriptTxn}
 use Rattle.fine_model.specs.declared.law.Origin.{Origin}
 use Rattle.fine_model.specs.declared.law.RoomState.{RoomState}
 use Rattle.fine_model.specs.Buckets.{Began}
-use Rattle.fine_model.specs.Causes.{HaveCauses}
+use Rattle.fine_model.specs.Causes.{HaveCauses, IsFullInNeed}
 use Rattle.fine_model.specs.Faults.{HasRisen, last_count}
 use Rattle.fine_model.specs.History.{Commit, last_epoch}
 use Rattle.fine_model.specs.Outcomes.{AllRun, AreOutcomes, lanes_not_run}
@@ -24,7 +24,7 @@ use Rattle.fine_model.proofs.Histories.Epochs.{all_sealed}
 use Rattle.epoch_room.specs.Meaning.{Stands, StandsTold, origin_of}
 use Rattle.epoch_room.specs.Value.{RoomValue}
 use Rattle.run_laws.specs.Lanes.{CutShort, HaveEnded, IsSoonest, first_fault, lanes_failed, rank}
-use Rattle.run_laws.specs.Runs.{IsReady, IsToSeal, Names, OfSound, OwnRose, RunsBy, RunsScript}
+use Rattle.run_laws.specs.Runs.{IsReady, IsToSeal, OfSound, OwnRose, RunsScript}
 use Rattle.run_laws.specs.SoFar.{Finished, FinishedLaw}
 use Rattle.run_laws.specs.Turns.{commits_of}
 use Rattle.run_laws.proofs.Caused.{causes_law}
@@ -40,7 +40,7 @@ at_one P [] x all (k, within, is) = absurd (omega (arith, within))
 at_one P (f ∷ faults) x all (zero, within, is) = subst P is all.0
 at_one P (f ∷ faults) x all (suc k, within, is) = at_one P faults x all.1 (k, omega (arith, within), is)
 
-module _ (names : Names) (script : List ScriptTxn) (options : Options) (entry room : RoomValue) (done : List Outcome) (ended told : List (Option RunFault)) (unsealed : Bool) (ready : IsReady entry) (f : Finished names script options entry room done ended told) where
+module _ (script : List ScriptTxn) (options : Options) (entry room : RoomValue) (done : List Outcome) (ended told : List (Option RunFault)) (unsealed : Bool) (ready : IsReady entry) (f : Finished script options entry room done ended told) where
   abbrev history : List Commit
   history = commits_of done
 
@@ -123,7 +123,7 @@ module _ (names : Names) (script : List ScriptTxn) (options : Options) (entry ro
   caused after last first e began stands =
       let s = (stands_told after first e began last (f.goes_on.stands first e began stands)).1 in
       subst (λ n. HaveCauses n first after.bytes script done history room.room.sealed) len
-      (causes_law script done room.room after.bytes first e f.so_far.numbered (f.refused first e began stands) s.stands.counts.epochs s.stands.counts.sealed f.goes_on.waiting
+      (causes_law script done room.room after.bytes first e f.so_far.numbered (f.refused first e began stands) f.none_behind s.stands.counts.epochs s.stands.counts.sealed f.goes_on.waiting
       (image_is ∙ ap (option_map (λ (t : Told). t.bytes)) last) s.stands.live)
 
   -- a room that is shut is told, and was shut by a failure of the disk's own
@@ -179,7 +179,9 @@ module _ (names : Names) (script : List ScriptTxn) (options : Options) (entry ro
     replied = f.so_far.replied;
     all_run = λ none. subst AllRun (sym as_told) (cut.all_run (λ x there. none_told none x (f.tells.all x there)));
     few_each = f.few;
-    in_need = f.in_need;
+    in_need = λ one first e began stands. f.in_need one;
+    last_need = λ one first e began stands.
+        subst (λ os. IsFullInNeed entry.room.region_len options.group entry.room.sealed first script os history) (sym as_told) (f.last_need one first e began stands);
     durable = refl;
     all_durable = all_sealed_if;
     causes = λ after last first e began stands. subst (λ os. HaveCauses entry.room.region_len first after.bytes script os history room.room.sealed) (sym as_told) (caused after last first e began stands);
@@ -192,9 +194,5 @@ module _ (names : Names) (script : List ScriptTxn) (options : Options) (entry ro
     };
   }
 
-  pub finished : RunsBy names script options entry room (record { outcomes = done; durable = room.room.sealed; fault = fault; unsealed = unsealed })
-  unfolding ran
-  finished = record { run = ran; damage = λ what is. f.named what (among (run_fault.Damaged what) is) }
-
-pub finished_law : (names : Names) → FinishedLaw names
-finished_law names script options entry room done ended told unsealed ready f = finished names script options entry room done ended told unsealed ready f
+pub finished_law : FinishedLaw
+finished_law script options entry room done ended told unsealed ready f = ran script options entry room done ended told unsealed ready f

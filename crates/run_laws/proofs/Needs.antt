@@ -4,12 +4,13 @@ use Rattle.std.specs.Prelude.{count_by, find}
 use Rattle.std.specs.Option.{option_or}
 use Rattle.std.proofs.lemmas.List.Folds.{find-append}
 use Rattle.std.proofs.lemmas.List.Sums.{sum_by-cons, sum_by_push}
+use Rattle.fine_model.specs.Causes.{used_in}
 use Rattle.fine_model.specs.History.{Commit}
 use Rattle.fine_model.specs.Merge.{cost}
 use Rattle.epoch_room.specs.Steps.{appended}
 use Rattle.epoch_room.specs.Value.{RoomValue}
 use Rattle.run_laws.specs.Going.{NeedCommits, NeedEnds, NeedSealed, NeedStays, NeedStill}
-use Rattle.run_laws.specs.Needs.{AreSealedInNeed, HadNeed, used_in}
+use Rattle.run_laws.specs.Needs.{AreSealedInNeed, HadNeed}
 
 -- ---- counting
 

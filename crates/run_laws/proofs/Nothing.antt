@@ -1,5 +1,5 @@
 -- That a run of nothing leaves a room as it is.
-use Rattle.std.proofs.Common.{◌≡◌, ◌⊎◌, inl, inr, ℕ, zero, suc, ◌+◌, ◌-◌, List, [], ◌∷◌, length, refl, sym, ap, subst, Option, Some, None, le_refl, arith}
+use Rattle.std.proofs.Common.{◌≡◌, ◌⊎◌, inl, inr, ℕ, zero, suc, ◌+◌, ◌-◌, true, false, List, [], ◌∷◌, length, refl, sym, ap, subst, Option, Some, None, le_refl, arith}
 use Rattle.std.specs.Prelude.{replicate, slice_get}
 use Rattle.std.specs.List.{AllZip}
 use Rattle.fine_model.specs.declared.Outcome.{Outcome}
@@ -81,7 +81,8 @@ module _ (script : List ScriptTxn) (options : Options) (room : RoomValue) (ready
     replied = tt;
     all_run = all_run;
     few_each = λ lane e. omega arith;
-    in_need = λ one e next above is. absurd (let x : ◌≡◌ {A = Option Commit} None (Some next) = is in cc);
+    in_need = λ one first n began stands e next above is. absurd (let x : ◌≡◌ {A = Option Commit} None (Some next) = is in cc);
+    last_need = λ one first e began stands i txn rows is at pushed. inl refl;
     durable = refl;
     all_durable = λ to. refl;
     causes = λ after is first e began stands. record { each = λ i txn word is_txn is_refused. absurd (not_refused (length script) i word (subst (λ os. slice_get os i ≡ Some (outcome.Refused word)) (sym (none_told script)) is_refused)) };
@@ -95,7 +96,15 @@ module _ (script : List ScriptTxn) (options : Options) (room : RoomValue) (ready
   }
 
   nothing : RunsLanes script options room room (nothing_ran room.room.sealed fault)
-  nothing = record { run = ran; damage = λ what is. absurd (let e : run_fault.Damaged what ≡ run_fault.Memory = only (run_fault.Damaged what) is in cc) }
+  unfolding ran
+  nothing = record {
+    run = ran;
+    seals_last = record {
+      all_durable = λ to own. refl;
+      some_wait = λ is. absurd (let e : false ≡ true = is in cc);
+      memory_told = λ is. absurd (let e : false ≡ true = is in cc);
+    };
+  }
 
 pub nothing_law : NothingLaw
 nothing_law script options room ready = (

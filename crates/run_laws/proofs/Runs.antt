@@ -16,13 +16,12 @@ use Rattle.fine_model.specs.declared.RunFault.TheVariants as run_fault
 use Rattle.fine_model.specs.declared.ScriptTxn.{ScriptTxn}
 use Rattle.fine_model.specs.declared.law.RoomState.{RoomState}
 use Rattle.fine_model.specs.Buckets.{Began}
-use Rattle.fine_model.specs.Causes.{HaveCauses}
+use Rattle.fine_model.specs.Causes.{HaveCauses, IsFullInNeed}
 use Rattle.fine_model.specs.Chain.{Shows, chain, chain_end}
-use Rattle.fine_model.specs.Damages.{IsDamageIn}
 use Rattle.fine_model.specs.Faults.{HasRisen, last_count}
 use Rattle.fine_model.specs.Headline.{FailsSound, HasStatus, ShowsSome}
 use Rattle.fine_model.specs.History.{Commit, last_epoch}
-use Rattle.fine_model.specs.Outcomes.{AreOutcomes, is_refused}
+use Rattle.fine_model.specs.Outcomes.{AreOutcomes, IsOneLane, is_refused}
 use Rattle.fine_model.specs.Report.{all_outcomes}
 use Rattle.fine_model.specs.Trees.{IsSound}
 use Rattle.fine_model.proofs.Histories.Epochs.{legal_of, sealed_from, sealed_least}
@@ -147,6 +146,10 @@ module _ (script : List ScriptTxn) (options : Options) (old new : RoomValue) (ra
     caused : HaveCauses old.disk.region_len first after.bytes script outcomes r.history ran.durable
     caused = subst (λ n. HaveCauses n first after.bytes script outcomes r.history ran.durable) len (r.causes after last first e began stands)
 
+    last_need : IsOneLane script → IsFullInNeed old.disk.region_len options.group e first script outcomes r.history
+    last_need one = subst (λ n. IsFullInNeed n options.group e first script outcomes r.history) len
+        (subst (λ n. IsFullInNeed old.room.region_len options.group n first script outcomes r.history) sealed (r.last_need one first e began stands))
+
     durable_to : IsToSeal old new ran.fault → ran.durable ≡ last_epoch e r.history
     durable_to to = subst (λ n. ran.durable ≡ last_epoch n r.history) sealed (r.all_durable to)
 
@@ -202,6 +205,7 @@ run_law script options old new ran r source output before after first e ready to
   };
   caused = caused script options old new ran r before ready told after first e last shows sound;
   few_each = λ one. few_of_one script (all_outcomes script ran.outcomes) old.room.sealed options.group r.history one r.outcomes r.few_each;
+  last_need = last_need script options old new ran r before ready told after first e last shows sound;
   failed = failed script options old new ran r before ready told after first e last shows sound source output;
   all_run = r.all_run;
   all_durable = λ none. durable_to script options old new ran r before ready told after first e last shows sound (inl none);
@@ -216,8 +220,7 @@ done_law script options old new ran r source output before after first e status 
 }
 
 pub behind_law : BehindLaw
-behind_law script options old new ran by before parts ready told is_chain =
-    let r = by.run in
+behind_law script options old new ran r before parts ready told is_chain =
     let at = ends_at script options old new ran r before ready told parts is_chain in
     record {
       outcomes = subst (λ n. AreOutcomes script n (all_outcomes script ran.outcomes) r.history) at r.outcomes;
@@ -227,8 +230,6 @@ behind_law script options old new ran by before parts ready told is_chain =
         all = λ none. r.all_durable (inl none) ∙ ap (λ n. last_epoch n r.history) at;
       };
       all_run = r.all_run;
-      damage = λ what is. subst (λ n. IsDamageIn (Ok script) ⊥ r.history n before.bytes parts what) (len script options old new ran r before ready told)
-          (by.damage what is before parts told (subst (λ n. chain n before.bytes ≡ Ok parts) (sym (len script options old new ran r before ready told)) is_chain));
       unsound = λ what is e first shows sound.
           let began = subst (λ d. Began (origin_of d) e first) ready.at_entry (began_of old.disk before e first told shows sound) in
           r.fault.unsound what is first e began (ready.stands first e began);

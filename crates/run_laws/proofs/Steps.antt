@@ -22,7 +22,7 @@ use Rattle.run_laws.proofs.Caused.{stays_refused}
 none_at : {A P : Type 0} (y : A) → ◌≡◌ {A = Option A} None (Some y) → P
 none_at y e = absurd (let x = e in cc)
 
-old_at : {A : Type 0} (xs : List A) (x : A) (i : ℕ) (y : A) → slice_get (xs ++ x ∷ []) i ≡ Some y → (slice_get xs i ≡ Some y) ⊎ ((i ≡ length xs) × (x ≡ y))
+pub old_at : {A : Type 0} (xs : List A) (x : A) (i : ℕ) (y : A) → slice_get (xs ++ x ∷ []) i ≡ Some y → (slice_get xs i ≡ Some y) ⊎ ((i ≡ length xs) × (x ≡ y))
 old_at [] x zero y is = inr (refl, let e : ◌≡◌ {A = Option _} (Some x) (Some y) = is in cc)
 old_at [] x (suc i) y is = none_at y is
 old_at (z ∷ xs) x zero y is = inl is
@@ -33,7 +33,7 @@ kept [] x i y is = none_at y is
 kept (z ∷ xs) x zero y is = is
 kept (z ∷ xs) x (suc i) y is = kept xs x i y is
 
-at_end : {A : Type 0} (xs : List A) (x : A) → slice_get (xs ++ x ∷ []) (length xs) ≡ Some x
+pub at_end : {A : Type 0} (xs : List A) (x : A) → slice_get (xs ++ x ∷ []) (length xs) ≡ Some x
 at_end [] x = refl
 at_end (z ∷ xs) x = at_end xs x
 

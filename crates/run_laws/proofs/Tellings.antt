@@ -1,29 +1,17 @@
 -- What faults of the body on one thread tell, step by step.
 use Rattle.std.proofs.Common.{◌≡◌, ◌≢◌, ◌⊎◌, inl, inr, ⊎_elim, ℕ, zero, suc, ◌+◌, ◌-◌, ◌<◌, ◌≤◌, min, Bool, true, false, List, [], ◌∷◌, ◌++◌, length, flat_map, take, Option, Some, None, Ok, refl, sym, ap, ◌∙◌, subst, arith}
 use Rattle.std.specs.Prelude.{Contains, nat_le, slice_get, slice_set, unwrap_or}
-use Rattle.std.specs.List.{AllByRecursion}
-use Rattle.std.proofs.lemmas.Option.{slice_get_within}
-use Rattle.fine_model.specs.declared.Call.{Call}
-use Rattle.fine_model.specs.declared.Damage.{Damage}
-use Rattle.fine_model.specs.declared.Damage.TheVariants as damage
-use Rattle.fine_model.specs.declared.NodeId.{NodeId}
-use Rattle.fine_model.specs.declared.Part.{Part}
 use Rattle.fine_model.specs.declared.RunFault.{RunFault}
 use Rattle.fine_model.specs.declared.RunFault.TheVariants as run_fault
-use Rattle.fine_model.specs.declared.ScriptTxn.{ScriptTxn}
-use Rattle.fine_model.specs.Damages.{GoOnTo, IsDamageIn, LooksAt, calls_on}
 use Rattle.fine_model.specs.Faults.{HasRisen, last_count}
 use Rattle.fine_model.specs.History.{Commit}
-use Rattle.fine_model.specs.Nodes.{Content}
-use Rattle.fine_model.proofs.Ordered.Sets.{all_append}
 use Rattle.epoch_room.specs.Meaning.{origin_of}
 use Rattle.epoch_room.specs.Value.{RoomValue}
 use Rattle.room_shelf.specs.Shelves.{IsCountOf}
 use Rattle.run_laws.specs.Lanes.{lanes_failed}
-use Rattle.run_laws.specs.Runs.{IsReady, Names, OwnRose}
+use Rattle.run_laws.specs.Runs.{IsReady, OwnRose}
 use Rattle.run_laws.specs.SoFar.{AreTold, GoesOn}
-use Rattle.run_laws.specs.Told.{DamageLasts, DamageStays, MoreBeside, MoreByLane, NamedMore, NamedNext, TellsMore, ToldMore, ToldOne, ToldStays}
-use Rattle.run_laws.proofs.Steps.{kept}
+use Rattle.run_laws.specs.Told.{MoreBeside, MoreByLane, TellsMore, ToldMore, ToldOne, ToldStays}
 
 -- ---- one fault more
 
@@ -225,71 +213,3 @@ module _ (entry old new : RoomValue) (count now : ℕ) (ended after told more : 
 
 pub told_more : ToldMore
 told_more entry old new count now ended after told more history fault ready t s = told_more_by entry old new count now ended after told more history ready t fault s
-
--- ---- the next transaction
-
-abbrev cut : {A : Type 0} → ℕ → List A → ℕ
-cut zero xs = zero
-cut (suc n) [] = zero
-cut (suc n) (x ∷ xs) = suc (cut n xs)
-
-cut_take : {A : Type 0} (n : ℕ) (xs ys : List A) → take (cut n xs) (xs ++ ys) ≡ take n xs
-cut_take zero xs ys = refl
-cut_take (suc n) [] ys = refl
-cut_take (suc n) (x ∷ xs) ys = ap (λ zs. x ∷ zs) (cut_take n xs ys)
-
-module _ (script : List ScriptTxn) (txn : ScriptTxn) (history more : List Commit) (turns : AllByRecursion (λ c. c.entry.turn ≡ length script + 1) more) where
-  others : (i : ℕ) → i < length script → (cs : List Commit) → AllByRecursion (λ c. c.entry.turn ≡ length script + 1) cs → AllByRecursion (λ c. c.entry.turn ≢ i + 1) cs
-  others i low [] all = tt
-  others i low (c ∷ cs) all = ((λ e. let h = all.0 in omega (arith, h, e, low)), others i low cs all.1)
-
-  looks_on : (before : List Commit) (own : List Call) (now : ℕ → Content) (id : NodeId) → LooksAt (Ok script) ⊥ history before own now id → LooksAt (Ok (script ++ txn ∷ [])) ⊥ (history ++ more) before own now id
-  looks_on before own now id (inr all) = absurd all.0
-  looks_on before own now id (inl (txns, i, t, c, rest, is, at, apart, calls, unfit)) =
-      let same : script ≡ txns = cc in
-      let there : slice_get script i ≡ Some t = ap (λ (ts : List ScriptTxn). slice_get ts i) same ∙ at in
-      inl (
-        script ++ txn ∷ [],
-        i,
-        t,
-        c,
-        rest,
-        refl,
-        kept script txn i t there,
-        all_append (λ c. c.entry.turn ≢ i + 1) history more apart (others i (slice_get_within script i t there) more turns),
-        calls,
-        unfit,
-      )
-
-  pub stays_damage : (region_len : ℕ) (image : List (List ℕ)) (parts : List Part) (what : Damage) → IsDamageIn (Ok script) ⊥ history region_len image parts what → IsDamageIn (Ok (script ++ txn ∷ [])) ⊥ (history ++ more) region_len image parts what
-  stays_damage region_len image parts (damage.Node id) m = record {
-    in_bucket = m.in_bucket;
-    nodes = m.nodes;
-    each = m.each;
-    committed = cut m.committed history;
-    own = m.own;
-    now = m.now;
-    goes_on = subst (λ cs. GoOnTo id.bucket m.nodes (calls_on id.bucket (flat_map (λ (c : Commit). c.entry.calls) cs ++ m.own)) m.now) (sym same) m.goes_on;
-    itself = m.itself;
-    looks = subst (λ cs. LooksAt (Ok (script ++ txn ∷ [])) ⊥ (history ++ more) cs m.own m.now id) (sym same) (looks_on (take m.committed history) m.own m.now id m.looks);
-  }
-    where
-      same : take (cut m.committed history) (history ++ more) ≡ take m.committed history
-      same = cut_take m.committed history more
-  stays_damage region_len image parts (damage.Region region at) m = m
-  stays_damage region_len image parts (damage.Gap from region) m = m
-  stays_damage region_len image parts (damage.Overlap region other) m = m
-
-pub damage_stays : DamageStays
-damage_stays script txn history more region_len image parts what turns is = stays_damage script txn history more turns region_len image parts what is
-
-pub damage_lasts : DamageLasts
-damage_lasts entry script txn history more what turns is before parts tells has = stays_damage script txn history more turns entry.room.region_len before.bytes parts what (is before parts tells has)
-
--- ---- what is named
-
-pub named_more : (names : Names) → NamedMore names
-named_more names script told more history fault adds is named what there = ⊎_elim (λ was. named what was) (λ e. is what (sym e)) (adds.only (run_fault.Damaged what) there)
-
-pub named_next : (names : Names) → NamedNext names
-named_next names lasting script txn told history more turns named what there = lasting script txn history more what turns (named what there)

@@ -163,7 +163,7 @@ module _ {B : Type 0} (stands_for : Origin → ℕ → B → List Commit → Typ
     pub in_need : RunsInNeed options.group txn.lane entry old.room old.full old.ended (commits_of done) → RunsInNeed options.group txn.lane entry new.room new.full new.ended (commits_of done ++ commits_of (next ∷ []))
     pub full_need : next ≡ outcome.Refused why.Full → old.full ≡ false → RunsInNeed options.group txn.lane entry old.room old.full old.ended (commits_of done)
         → OfSound entry (λ first e. (rows : List Row) → all_pushed (first ++ all_rows (commits_of done)) txn.calls ≡ Ok rows
-            → HadNeedBefore entry.room.region_len options.group entry.room.sealed (commits_of done) rows)
+        → HadNeedBefore entry.room.region_len options.group entry.room.sealed (commits_of done) rows)
     pub flag : KeepsFlag old.full new.full next
     pub no_region : new.full ≡ true → HasNoRegion new.room.room
     pub told : AreTold entry new.room (total (shelf new.room new.view)) new.ended new.ended

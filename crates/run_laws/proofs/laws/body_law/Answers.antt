@@ -4,7 +4,7 @@ use Rattle.run_laws.proofs.laws.body_law.Goals as goal
 
 pub returns : goal.returns
 returns g c = record {
-  begins = λ script options entry buckets ready group stand. begins g.B.BucketsLaw.stand_for g.N.NamesLaw.names script options entry buckets ready group stand;
-  steps = λ script options entry. steps g.B.BucketsLaw.stand_for g.N.NamesLaw.names script options entry;
-  ends = λ script options entry. ends g.B.BucketsLaw.stand_for g.N.NamesLaw.names script options entry;
+  begins = λ script options entry buckets ready group stand. begins g.B.BucketsLaw.stand_for script options entry buckets ready group stand;
+  steps = λ script options entry. steps g.B.BucketsLaw.stand_for script options entry;
+  ends = λ script options entry. ends g.B.BucketsLaw.stand_for script options entry;
 }

@@ -2,4 +2,4 @@ use Rattle.run_laws.proofs.Finish.{finished_law}
 use Rattle.run_laws.proofs.laws.finished_law.Goals as goal
 
 pub returns : goal.returns
-returns g c = finished_law g.N.NamesLaw.names
+returns c = finished_law

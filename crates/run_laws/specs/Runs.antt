@@ -1,5 +1,5 @@
 -- What a run of a script on a room does.
-use Rattle.std.specs.Prelude.{◌≡◌, ◌⊎◌, ℕ, ◌+◌, ◌-◌, ◌<◌, ◌≤◌, ◌==◌, ◌&&◌, false, true, List, [], length, count_by, Option, Some, None, Ok}
+use Rattle.std.specs.Prelude.{◌≡◌, ◌⊎◌, ℕ, ◌+◌, ◌-◌, ◌<◌, ◌≤◌, ◌==◌, ◌&&◌, false, true, List, [], length, count_by, Option, Some, None}
 use Rattle.std.specs.List.{AllByRecursion, AllZip, list_all}
 use Rattle.log_disk.specs.Disk.{Told}
 use Rattle.fine_model.specs.declared.Damage.{Damage}

@@ -41,7 +41,7 @@ among (b ∷ faults) a = ⊎_elim (λ is. first is (of_two a b).2) (λ there. in
     first is (inl old) = inl (is ∙ old)
     first is (inr new) = inr (0, omega arith, sym (is ∙ new))
 
--- with one behind them, it is the sooner of this and the soonest of them
+-- with one after them, it is the sooner of this and the soonest of them
 pub soonest_with : (faults : List (Option RunFault)) (last : Option RunFault) → first_fault (faults ++ last ∷ []) ≡ sooner (first_fault faults) last
 unfolding first_fault
 soonest_with faults last = fold-append sooner None faults (last ∷ [])

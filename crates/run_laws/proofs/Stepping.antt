@@ -133,7 +133,7 @@ module _ {B : Type 0} (stands_for : Origin → ℕ → B → List Commit → Typ
           subst (λ n. slice_set (s.done ++ replicate (length script - n) outcome.NotRun) n next ≡ (s.done ++ next ∷ []) ++ replicate (length script - (n + 1)) outcome.NotRun) s.so_far.count
           (sets_law (length script) s.done next (let w = slice_get_within script i txn at in let c = s.so_far.count in omega (arith, w, c)))
 
-  -- and behind the last one it has finished
+  -- and after the last one the body has finished
   pub ends : (s : Serial B) (room : RoomValue) (told : List (Option RunFault)) (so_far : SoFar stands_for script options (length script) entry s) → IsEnd entry s.room room so_far.done s.ended told
       → Finished script options entry room so_far.done s.ended told
   ends s room told so_far end = record {

@@ -99,7 +99,7 @@ abbrev pub NeedStill : Type 0
 NeedStill =
     (group : ℕ) (entry old new : RoomValue) (full full' : Bool) (history : List Commit) → EndsInNeed group entry old full history → Unsealed old.room new.room → (full ≡ true → full' ≡ true) → EndsInNeed group entry new full' history
 
--- with a commit more, which is of an open epoch, or of one behind that was sealed in need
+-- with a commit more, which is of an open epoch, or of one after an epoch that was sealed in need
 abbrev pub NeedCommits : Type 0
 NeedCommits =
     (group : ℕ) (entry old new : RoomValue) (full : Bool) (history : List Commit) (c : Commit) → IsInNeed group entry old full history → GoesOn entry old history → new ≡ appended old c.entry.rows → c.epoch ≡ old.room.sealed + 1 → full ≡ false

@@ -37,7 +37,7 @@ sooner a b = if nat_lt (rank b) (rank a) then b else a
 unfoldable pub first_fault : List (Option RunFault) → Option RunFault
 first_fault faults = fold sooner None faults
 
--- the faults of lanes, and behind them one that ended none, if there is one
+-- the faults of lanes, and after them one that ended none, if there is one
 abbrev pub with_last : List (Option RunFault) → Option RunFault → List (Option RunFault)
 with_last faults None = faults
 with_last faults (Some fault) = faults ++ Some fault ∷ []

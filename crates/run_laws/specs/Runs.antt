@@ -106,9 +106,9 @@ pub record RunsScript (script : List ScriptTxn) (options : Options) (old new : R
   pub replied : AllByRecursion IsReplied history
   pub all_run : ran.fault ≡ None → AllRun (all_outcomes script ran.outcomes)
   pub few_each : AreFewOfLanes options.group history
-  -- on a sound log one lane alone has no epoch sealed before a group is full, unless the rows of its next entry did not fit
+  -- on a sound log a single lane has no epoch, of those that another one follows, sealed before a group is full, unless the rows of the next entry did not fit
   pub in_need : IsOneLane script → OfSound old (λ first e. AreSealedInNeed old.room.region_len options.group old.room.sealed history)
-  -- and neither has the epoch before its first refusal as full
+  -- and so it is of the epoch before its first transaction that is refused as full
   pub last_need : IsOneLane script
       → OfSound old (λ first e. IsFullInNeed old.room.region_len options.group old.room.sealed first script (all_outcomes script ran.outcomes) history)
   pub durable : ran.durable ≡ new.room.sealed

@@ -153,8 +153,8 @@ module _ {B : Type 0} (stands_for : Origin → ℕ → B → List Commit → Typ
     pub view : IsShelf s.room.room s.view
     pub buckets : stands_for (origin_of entry.entry) s.room.room.sealed s.buckets (commits_of done)
 
-  -- The step of a transaction, behind the outcomes of those before it: what holds of the outcomes, the room, the faults and the buckets holds with its
-  -- outcome, and with its commit, if it has one. Its lane may end by it, also where it was committed and the seal behind it failed.
+  -- The step of a transaction, after the outcomes of those before it: what holds of the outcomes, the room, the faults and the buckets holds with its
+  -- outcome, and with its commit, if it has one. Its lane may end by it, also where it was committed and the seal after it failed.
   pub record IsStep (script : List ScriptTxn) (options : Options) (i : ℕ) (entry : RoomValue) (done : List Outcome) (txn : ScriptTxn) (next : Outcome) (old new : Serial B) : Type 0 where
     pub outcomes : new.outcomes ≡ slice_set old.outcomes i next
     pub so_far : AreSoFar script (i + 1) (done ++ next ∷ []) new.ended
@@ -186,7 +186,7 @@ module _ {B : Type 0} (stands_for : Origin → ℕ → B → List Commit → Typ
       (script : List ScriptTxn) (options : Options) (entry : RoomValue) (i : ℕ) (txn : ScriptTxn) (next : Outcome) (old new : Serial B) (s : SoFar script options i entry old) → slice_get script i ≡ Some txn
       → IsStep script options i entry s.done txn next old new → SoFar script options (i + 1) entry new
 
--- what is done behind the last transaction: the view is taken back, and what waits is sealed, unless the room is shut
+-- what is done after the last transaction: the view is taken back, and what waits is sealed, unless the room is shut
 pub record IsEnd (entry old room : RoomValue) (done : List Outcome) (ended told : List (Option RunFault)) : Type 0 where
   pub goes_on : GoesOn entry room (commits_of done)
   pub tells : AreTold entry room room.disk.faults ended told

@@ -49,7 +49,7 @@ InTurnLaw =
 
 -- ---- why transactions were refused
 
--- A transaction was refused behind some rows, by a room: that it is stuck, or has sealed the last epoch, stays so as it goes on.
+-- A transaction was refused after some rows, by a room: that it is stuck, or has sealed the last epoch, stays so as it goes on.
 abbrev pub RefusesBehind : RoomState → List Row → List Call → Why → Type 0
 RefusesBehind room before calls why.Large = (rows : List Row) × (all_pushed before calls ≡ Ok rows) × (room.region_len < short_header + cost rows)
 RefusesBehind room before calls why.Bucket = all_pushed before calls ≡ Err why.Bucket
@@ -59,7 +59,7 @@ RefusesBehind room before calls why.Full = IsStuck room
 abbrev pub StaysRefused : Type 0
 StaysRefused = (old new : RoomState) (before : List Row) (calls : List Call) (word : Why) → Becomes old new → new.sealed ≤ greatest → RefusesBehind old before calls word → RefusesBehind new before calls word
 
--- each refused transaction was refused behind the commits before it
+-- each refused transaction was refused after the commits before it
 pub record AreRefused (script : List ScriptTxn) (outcomes : List Outcome) (room : RoomState) (first : List Row) : Type 0 where
   pub each : (i : ℕ) (txn : ScriptTxn) (word : Why) → slice_get script i ≡ Some txn → slice_get outcomes i ≡ Some (outcome.Refused word)
       → RefusesBehind room (first ++ all_rows (commits_of (take i outcomes))) txn.calls word

@@ -100,7 +100,7 @@ impl EndedLanes {
         self.first()
     }
 
-    /// The fault that a run tells, where one may have come behind all lanes, which ended none of them. Of equal ones that of the lowest lane.
+    /// The fault that a run tells, where one may have come after all lanes, which ended none of them. Of equal ones that of the lowest lane.
     pub fn fault_with(&self, last: Option<RunFault>) -> Option<RunFault>
         ensures { result ≡ first_fault (with_last self.now last) }
     {

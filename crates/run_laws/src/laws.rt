@@ -21,8 +21,8 @@ pub fn ready_law()
     ensures { ReadyLaw }
 {}
 
-/// On each sound log that the disk told at entry, a run of lanes is a run in the words of the theorem, with its causes and its fault; and with
-/// status 0, 6 or 8 one that was done.
+/// On each sound log that the disk told at entry, a run of lanes is a run in the words of the theorem, with its causes, its needs and its fault.
+/// With status 0, 6 or 8 the run was done.
 pub fn run_law()
     ensures run { RunLaw }
     ensures done { DoneLaw }
@@ -43,7 +43,7 @@ pub fn nothing_law()
     ensures { NothingLaw }
 {}
 
-/// Where transactions are run in the order of the script, their outcomes are those of one history: that of their commits, one behind the other.
+/// Where transactions are run in the order of the script, their outcomes are those of one history: that of their commits, one after the other.
 pub fn in_turn_law()
     ensures { InTurnLaw }
 {}
@@ -55,7 +55,7 @@ pub fn cut_short_law()
 {}
 
 /// What a room refused it would refuse for the same reason as it goes on; and where transactions are run in the order of the script, one that was
-/// refused behind the commits before it has its cause at the end.
+/// refused after the commits before it has its cause at the end, where nothing is committed after a refusal as full.
 pub fn causes_law()
     ensures stays { StaysRefused }
     ensures causes { CausesLaw }
@@ -116,7 +116,7 @@ pub fn told_law()
 {}
 
 /// The body on one thread, with buckets of any kind: it begins on a room that is ready, the step of each transaction keeps what holds of it, and it has
-/// finished where the view was taken back behind the last one, and what waited was sealed.
+/// finished where the view was taken back after the last one, and what waited was sealed.
 pub fn body_law<B: BucketsLaw>()
     ensures begins { BeginsLaw B.stand_for }
     ensures steps { StepsLaw B.stand_for }

@@ -1,7 +1,6 @@
 -- Histories, and runs over them.
 pub mod Legal
 pub mod Stated
-pub mod RunDamages
 pub mod HistoryLaws
 pub mod Epochs
 pub mod FitHistory

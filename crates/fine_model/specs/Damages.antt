@@ -1,16 +1,13 @@
 -- What status 7 means on any log.
-use Rattle.std.specs.Prelude.{◌≡◌, ◌≢◌, ◌⊎◌, ℕ, ◌-◌, ◌==◌, ◌<◌, ◌≤◌, Bool, true, false, IsTrue, List, [], ◌∷◌, ◌++◌, filter, map, flat_map, take, Option, None, Some, IsSome, unwrap_or, Result, Ok, Err, Contains, slice_get, ◌+◌}
+use Rattle.std.specs.Prelude.{◌≡◌, ◌⊎◌, ℕ, ◌-◌, ◌<◌, ◌≤◌, Bool, true, false, IsTrue, List, [], ◌∷◌, ◌++◌, map, flat_map, Option, None, Some, IsSome, unwrap_or, Result, Ok, Err, Contains, ◌+◌}
 use Rattle.std.specs.List.{AllByRecursion, list_any}
-use Rattle.fine_model.specs.Types.{Row, Header, Part, Call, Damage, NodeId, RunFault, ScriptTxn, Ran}
-use Rattle.fine_model.specs.Types.call
+use Rattle.fine_model.specs.Types.{Row, Header, Part, Damage, NodeId, RunFault, ScriptTxn, Ran}
 use Rattle.fine_model.specs.Types.damage
 use Rattle.fine_model.specs.Types.node
 use Rattle.fine_model.specs.Types.run_fault
 use Rattle.fine_model.specs.Nodes.{Content, base, replay, rows_of}
 use Rattle.fine_model.specs.Merge.{is_image, is_node_below, starts_afresh}
 use Rattle.fine_model.specs.RowBytes.{buckets}
-use Rattle.fine_model.specs.Pushed.{call_push, key_of, within_limits}
-use Rattle.fine_model.specs.Laws.{AreSmall}
 use Rattle.fine_model.specs.Trees.{IsSound, bucket_of, nodes_of}
 use Rattle.fine_model.specs.Paths.{unfit_under, unfit_between}
 use Rattle.fine_model.specs.Regions.{Image, Place, place_of, body_in, HasHeader, HoldsBadItem, IsSealed}
@@ -133,34 +130,7 @@ IsDamageOf region_len image parts _ = ⊥
 abbrev pub IsDamage : ℕ → Image → (List Part → Damage → Type 0) → Damage → Type 0
 IsDamage region_len entry P what = (chain region_len entry ≡ Err what) ⊎ ((parts : List Part) × (chain region_len entry ≡ Ok parts) × P parts what)
 
--- ---- what a run meets that makes the log longer
-
--- the contents of a bucket's nodes after rows
-abbrev pub with_rows : ℕ → (ℕ → Content) → List Row → ℕ → Content
-with_rows bucket nodes rows number = replay (nodes number) (rows_of (record { bucket = bucket; number = number }) rows)
-
--- contents of a bucket's nodes, and what they are after calls on it in order, each of which pushed its rows
-abbrev pub GoOnTo : ℕ → (ℕ → Content) → List Call → (ℕ → Content) → Type 0
-GoOnTo bucket nodes [] now = (number : ℕ) → now number ≡ nodes number
-GoOnTo bucket nodes (c ∷ cs) now =
-    (rows : List Row) × (bucket_of (key_of c) ≡ bucket) × (within_limits (call_push bucket nodes c) ≡ Ok rows) × GoOnTo bucket (with_rows bucket nodes rows) cs now
-
--- the calls on a bucket; a scan pushes no rows, wherever it is counted
-abbrev pub calls_on : ℕ → List Call → List Call
-calls_on bucket calls = filter (λ c. bucket_of (key_of c) == bucket) calls
-
--- a node is the first that is not fit on the path of a call over contents of its bucket, or of a scan of its range, whatever it still wants
-abbrev pub IsUnfitBy : Call → (ℕ → Content) → NodeId → Type 0
-IsUnfitBy (call.Scan low high limit) nodes id = (wanted : ℕ) × (unfit_between id.bucket nodes low high wanted (nodes 0).0 ≡ Some id.number)
-IsUnfitBy c nodes id = (bucket_of (key_of c) ≡ id.bucket) × (unfit_under id.bucket nodes (key_of c) (nodes 0).0 ≡ Some id.number)
-
--- A look that meets a node unfit: that of a call of a transaction of the script which the history never commits, behind the transaction's calls
--- before it, or, where all is read at the end, of a scan behind the whole history and no open transaction.
-abbrev pub LooksAt : Result (List ScriptTxn) Refusal → Type 0 → List Commit → List Commit → List Call → (ℕ → Content) → NodeId → Type 0
-LooksAt script reads_all history before own now id =
-    ((txns : List ScriptTxn) × (i : ℕ) × (txn : ScriptTxn) × (c : Call) × (rest : List Call) × (script ≡ Ok txns) × (slice_get txns i ≡ Some txn) × AllByRecursion (λ c. c.entry.turn ≢ i + 1) history
-    × (txn.calls ≡ own ++ c ∷ rest) × IsUnfitBy c now id)
-    ⊎ (reads_all × (before ≡ history) × (own ≡ []) × (low : List ℕ) × (high : List ℕ) × (wanted : ℕ) × (unfit_between id.bucket now low high wanted (now 0).0 ≡ Some id.number))
+-- ---- what is found where neighbours were merged
 
 -- A content that a reader finds in a node by the bytes at entry, whatever neighbours were merged since: beside those of `FindsContent` the replay
 -- of the rows from a part on that need nothing before them, since merging makes an image of such rows.
@@ -172,30 +142,16 @@ pub record FindsMerged (region_len : ℕ) (image : Image) (parts : List Part) (i
   pub why : (skipped ≡ []) ⊎ IsTrue (has_image_first read) ⊎ IsTrue (starts_afresh (flat_map (λ r. r.1) read))
   pub replayed : found ≡ replay (base id) (flat_map (λ r. r.1) read)
 
--- A node that a run of a script meets unfit. Its calls on the bucket went on from contents that are found by the bytes at entry; what is not found
--- counts as broken, and no path goes on behind it. The node itself is found, or the run made it. The calls are those of the first commits of its
--- history, by place, and then those of the open transaction before the call that looks.
-pub record MeetsUnfit (script : Result (List ScriptTxn) Refusal) (reads_all : Type 0) (history : List Commit) (region_len : ℕ) (image : Image) (parts : List Part) (id : NodeId) : Type 0 where
-  pub in_bucket : id.bucket < buckets
-  pub nodes : ℕ → Content
-  pub each : (number : ℕ) → FindsMerged region_len image parts (record { bucket = id.bucket; number = number }) (nodes number) ⊎ (nodes number ≡ (node.Broken, 0))
-  pub committed : ℕ
-  pub own : List Call
-  pub now : ℕ → Content
-  pub goes_on : GoOnTo id.bucket nodes (calls_on id.bucket (flat_map (λ c. c.entry.calls) (take committed history) ++ own)) now
-  pub itself : FindsMerged region_len image parts id (nodes id.number) ⊎ ((now id.number).0 ≢ node.Broken)
-  pub looks : LooksAt script reads_all history (take committed history) own now id
-
 -- What may be named as damaged by one who reads whole parts and no tree, as merging does: a bad place of the parts at entry.
 abbrev pub IsBadOf : ℕ → Image → List Part → Damage → Type 0
 IsBadOf region_len image parts (damage.Region region at) = HasBadPlace region_len image parts (record { region = region; at = at })
 IsBadOf region_len image parts _ = ⊥
 
--- What a run of a script may name as damaged, with the history of what it committed before. A bad place is one of the parts at entry: a region of the chain keeps its bytes until its part was
--- merged, a part that merging finds bad is not merged, and of the parts that a run writes itself, sealed or merged, a reader finds none bad.
-abbrev pub IsDamageIn : Result (List ScriptTxn) Refusal → Type 0 → List Commit → ℕ → Image → List Part → Damage → Type 0
-IsDamageIn script reads_all history region_len image parts (damage.Node id) = MeetsUnfit script reads_all history region_len image parts id
-IsDamageIn script reads_all history region_len image parts what = IsBadOf region_len image parts what
+-- damage of a place in a region, or of a node, and not of the chain
+abbrev pub IsPlaceOrNode : Damage → Type 0
+IsPlaceOrNode (damage.Region region at) = Unit {0}
+IsPlaceOrNode (damage.Node id) = Unit {0}
+IsPlaceOrNode _ = ⊥
 
 -- where the chain is undefined, what the disk tells stays, and nothing is done; with status 7 the chain's damage is printed
 pub record HasNoChain (still_told : Type 0) (what : Damage) (status : ℕ) (written : List ℕ) : Type 0 where
@@ -215,7 +171,7 @@ pub record Running : Type 1 where
 abbrev pub PrintsDamage : Running → ℕ → Image → Return → List ℕ → Type 0
 PrintsDamage r region_len entry back written =
     (what : Damage) × IsUnsound region_len entry × (((chain region_len entry ≡ Err what) × (written ≡ damage_line what))
-    ⊎ ((parts : List Part) × (history : List Commit) × (chain region_len entry ≡ Ok parts)
+    ⊎ ((parts : List Part) × (history : List Commit) × (chain region_len entry ≡ Ok parts) × IsPlaceOrNode what
     × (((history ≡ []) × back.still × (written ≡ damage_line what)) ⊎ r.prints parts history (Some (run_fault.Damaged what)) 7 written)))
 
 -- what was run without a fault, behind the chain at entry
@@ -282,20 +238,3 @@ UnfitLaw =
     (region_len : ℕ) (image : Image) (parts : List Part) (id : NodeId) (found : ℕ → Option Content) → id.bucket < buckets
     → ((number : ℕ) (c : Content) → found number ≡ Some c → FindsContent region_len image parts (record { bucket = id.bucket; number = number }) c)
     → IsSome (found id.number) → IsUnfitNode (λ number. unwrap_or (found number) (node.Broken, 0)) id → FindsUnfit region_len image parts id
-
--- a bad place may be named by each who reads, and by a run of any script
-abbrev pub NamesLaw : Type 0
-NamesLaw = (script : Result (List ScriptTxn) Refusal) (region_len : ℕ) (image : Image) (parts : List Part) (what : Damage)
-    → (IsBadOf region_len image parts what → IsDamageOf region_len image parts what)
-    × ((history : List Commit) → IsBadOf region_len image parts what → IsDamageIn script ⊥ history region_len image parts what)
-
--- what a look meets unfit is so on the path of some key, or of some scan
-abbrev pub LooksLaw : Type 0
-LooksLaw =
-    (script : Result (List ScriptTxn) Refusal) (history before : List Commit) (own : List Call) (now : ℕ → Content) (id : NodeId)
-    → LooksAt script (Unit {0}) history before own now id → IsUnfitNode now id
-
--- on sound rows no calls make a node unfit
-abbrev pub StaysFit : Type 0
-StaysFit = (rows : List Row) (id : NodeId) (calls : List Call) (now : ℕ → Content) → id.bucket < buckets → AreSmall rows → IsSound rows
-    → GoOnTo id.bucket (nodes_of rows id.bucket) calls now → IsUnfitNode now id → ⊥

@@ -10,7 +10,7 @@ use Rattle.fine_model.specs.declared.RunFault.{RunFault}
 use Rattle.fine_model.specs.declared.RunFault.TheVariants as run_fault
 use Rattle.fine_model.specs.declared.ScriptTxn.{ScriptTxn}
 use Rattle.fine_model.specs.Chain.{Shows, chain, chain_end}
-use Rattle.fine_model.specs.Damages.{IsDurableFor, IsUnsound}
+use Rattle.fine_model.specs.Damages.{IsDurableFor, IsPlaceOrNode, IsUnsound}
 use Rattle.fine_model.specs.Faults.{HasRisen, last_count}
 use Rattle.fine_model.specs.Headline.{Start, Return, IsDoneRun, IsRunWith, HasStatus, causes_of}
 use Rattle.fine_model.specs.History.{Commit}
@@ -65,6 +65,7 @@ pub record RunsBehind (script : List ScriptTxn) (region_len : ℕ) (before : Tol
   pub durable : IsDurableFor parts history ran.fault ran.durable
   pub all_run : ran.fault ≡ None → AllRun (all_outcomes script ran.outcomes)
   pub unsound : (what : Damage) → ran.fault ≡ Some (run_fault.Damaged what) → IsUnsound region_len before.bytes
+  pub placed : (what : Damage) → ran.fault ≡ Some (run_fault.Damaged what) → IsPlaceOrNode what
 
 -- on each log that the disk told at entry
 abbrev pub BehindLaw : Type 0

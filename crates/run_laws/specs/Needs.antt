@@ -1,10 +1,9 @@
 -- What an epoch is sealed for.
-use Rattle.std.specs.Prelude.{◌≡◌, ◌⊎◌, ℕ, ◌+◌, ◌<◌, ◌≤◌, ◌==◌, Bool, true, List, [], length, count_by, find, Option, None, Some}
-use Rattle.fine_model.specs.declared.Row.{Row}
+use Rattle.std.specs.Prelude.{◌≡◌, ◌⊎◌, ℕ, ◌+◌, ◌<◌, ◌≤◌, ◌==◌, Bool, true, List, length, count_by, find, Option, None, Some}
 use Rattle.fine_model.specs.declared.RunFault.{RunFault}
 use Rattle.fine_model.specs.declared.law.RoomState.{RoomState}
 use Rattle.fine_model.specs.Causes.{used_in}
-use Rattle.fine_model.specs.History.{Commit, last_epoch}
+use Rattle.fine_model.specs.History.{Commit}
 use Rattle.fine_model.specs.Merge.{cost}
 use Rattle.fine_model.specs.RowBytes.{greatest, short_header}
 use Rattle.epoch_room.specs.Value.{RoomValue}
@@ -19,12 +18,6 @@ HadNeed region_len group history e next = (group ≤ count_by (λ c. c.epoch == 
 -- so it is of each epoch above one, which another one follows; this one begins with `next`
 abbrev pub AreSealedInNeed : ℕ → ℕ → ℕ → List Commit → Type 0
 AreSealedInNeed region_len group above history = (e : ℕ) (next : Commit) → above < e → find (λ c. c.epoch == e + 1) history ≡ Some next → HadNeed region_len group history e next
-
--- What an epoch was sealed for before some rows that the log has no room for: nothing was committed at all, the last epoch of the history has a group of
--- entries, or these rows did not fit its region any more.
-abbrev pub HadNeedBefore : (region_len group e : ℕ) → List Commit → List Row → Type 0
-HadNeedBefore region_len group e history rows =
-    (history ≡ []) ⊎ (group ≤ count_by (λ c. c.epoch == last_epoch e history) history) ⊎ (region_len < short_header + used_in (last_epoch e history) history + cost rows)
 
 -- ---- steps of a room
 

@@ -13,6 +13,7 @@ use Rattle.fine_model.specs.declared.ScriptTxn.{ScriptTxn}
 use Rattle.fine_model.specs.Boards.{is_empty}
 use Rattle.fine_model.specs.Buckets.{Began}
 use Rattle.fine_model.specs.Causes.{HaveCauses, IsFullInNeed}
+use Rattle.fine_model.specs.Damages.{IsPlaceOrNode}
 use Rattle.fine_model.specs.Faults.{HasRisen, last_count}
 use Rattle.fine_model.specs.History.{Commit, last_epoch}
 use Rattle.fine_model.specs.Outcomes.{AllRun, AreOutcomes, EpochsFollow, IsOneLane, lanes_not_run}
@@ -71,12 +72,13 @@ abbrev pub OwnRose : RoomValue → RoomValue → Type 0
 OwnRose old new = HasRisen old.disk.own_faults new.disk.own_faults
 
 -- How the fault of a run is told. A failed disk is told only where its count rose, and where the count is greater than it was, unless memory ran out too.
--- Damage comes on an unsound log alone. Without a failure of the disk's own, each lane that was cut short has a failed call.
+-- Damage comes on an unsound log alone, and names a place of a region or a node. Without a failure of the disk's own, each lane that was cut short has a failed call.
 pub record TellsFault (script : List ScriptTxn) (outcomes : List Outcome) (old new : RoomValue) (fault : Option RunFault) : Type 0 where
   pub only_risen : fault ≡ Some run_fault.Disk → HasRisen old.disk.faults new.disk.faults
   pub where_risen : old.disk.faults < new.disk.faults → (fault ≡ Some run_fault.Disk) ⊎ (fault ≡ Some run_fault.Memory)
   pub no_lower : (old.disk.faults ≤ new.disk.faults) × (old.disk.own_faults ≤ new.disk.own_faults)
   pub unsound : (what : Damage) → fault ≡ Some (run_fault.Damaged what) → OfSound old (λ first e. ⊥)
+  pub placed : (what : Damage) → fault ≡ Some (run_fault.Damaged what) → IsPlaceOrNode what
   pub one_each : fault ≡ Some run_fault.Disk → ¬ OwnRose old new
       → OfSound old (λ first e. (lanes_not_run script outcomes ≤ new.disk.faults - old.disk.faults) ⊎ (last_count ≤ new.disk.faults))
 

@@ -1,5 +1,5 @@
 -- The body on one thread, after some transactions, and at its end.
-use Rattle.std.specs.Prelude.{◌≡◌, ◌≢◌, ◌⊎◌, ℕ, ◌+◌, ◌-◌, ◌<◌, ◌≤◌, ◌==◌, ◌&&◌, min, Bool, true, false, is_some, List, [], ◌∷◌, ◌++◌, length, take, replicate, count_by, slice_get, slice_set, Option, Some, None, Ok, Contains}
+use Rattle.std.specs.Prelude.{◌≡◌, ◌≢◌, ◌⊎◌, ℕ, ◌+◌, ◌-◌, ◌<◌, ◌≤◌, ◌==◌, ◌&&◌, min, Bool, true, false, is_some, List, [], ◌∷◌, ◌++◌, length, take, replicate, count_by, slice_get, slice_set, Option, Some, None, Contains}
 use Rattle.std.specs.List.{AllByRecursion, AllZip, list_all}
 use Rattle.fine_model.specs.declared.Damage.{Damage}
 use Rattle.fine_model.specs.declared.Options.{Options}
@@ -15,18 +15,18 @@ use Rattle.fine_model.specs.declared.law.Origin.{Origin}
 use Rattle.fine_model.specs.declared.law.RoomState.{RoomState}
 use Rattle.fine_model.specs.Becomes.{Becomes, IsStuck}
 use Rattle.fine_model.specs.Boards.{is_empty}
-use Rattle.fine_model.specs.Causes.{IsFullInNeed}
+use Rattle.fine_model.specs.Causes.{IsFullInNeed, IsRefusedInNeed}
+use Rattle.fine_model.specs.Damages.{IsPlaceOrNode}
 use Rattle.fine_model.specs.Faults.{HasRisen, last_count}
 use Rattle.fine_model.specs.History.{Commit, all_rows}
 use Rattle.fine_model.specs.Outcomes.{IsOneLane, IsOutcomeOf}
-use Rattle.fine_model.specs.Pushed.{all_pushed}
 use Rattle.fine_model.specs.RowBytes.{greatest}
 use Rattle.epoch_room.specs.Meaning.{origin_of}
 use Rattle.epoch_room.specs.Value.{RoomValue}
 use Rattle.partition_hold.specs.Views.{ViewValue}
 use Rattle.room_shelf.specs.Shelves.{IsShelf, shelf, total}
 use Rattle.run_laws.specs.Lanes.{EndsLane, HaveEnded, IsLane, fault_of, first_fault, lanes_failed, most_lanes, none_ended}
-use Rattle.run_laws.specs.Needs.{AreSealedInNeed, HadNeedBefore, HasNoRegion, RunsInNeed}
+use Rattle.run_laws.specs.Needs.{AreSealedInNeed, HasNoRegion, RunsInNeed}
 use Rattle.run_laws.specs.Runs.{AreFewOfLanes, HasHistory, IsReady, IsReplied, OfSound, OwnRose, RunsScript}
 use Rattle.run_laws.specs.Turns.{AreNumbered, AreRefused, EndsLanes, NoneBehindFull, RefusesBehind, commit_of, commits_of}
 
@@ -121,6 +121,7 @@ pub record AreTold (entry room : RoomValue) (count : ℕ) (ended told : List (Op
   pub where_risen : entry.disk.faults < count → Contains told (Some run_fault.Disk) ⊎ Contains told (Some run_fault.Memory)
   pub shut : room.room.is_shut ≡ true → Contains told (Some run_fault.Disk) ⊎ Contains told (Some run_fault.Memory)
   pub unsound : (what : Damage) → Contains told (Some (run_fault.Damaged what)) → OfSound entry (λ first e. ⊥)
+  pub placed : (what : Damage) → Contains told (Some (run_fault.Damaged what)) → IsPlaceOrNode what
 
 -- ---- all of it
 
@@ -162,8 +163,7 @@ module _ {B : Type 0} (stands_for : Origin → ℕ → B → List Commit → Typ
     pub few : AreFewSoFar options.group new.room.room.sealed new.ended (commits_of done ++ commits_of (next ∷ []))
     pub in_need : RunsInNeed options.group txn.lane entry old.room old.full old.ended (commits_of done) → RunsInNeed options.group txn.lane entry new.room new.full new.ended (commits_of done ++ commits_of (next ∷ []))
     pub full_need : next ≡ outcome.Refused why.Full → old.full ≡ false → RunsInNeed options.group txn.lane entry old.room old.full old.ended (commits_of done)
-        → OfSound entry (λ first e. (rows : List Row) → all_pushed (first ++ all_rows (commits_of done)) txn.calls ≡ Ok rows
-        → HadNeedBefore entry.room.region_len options.group entry.room.sealed (commits_of done) rows)
+        → OfSound entry (λ first e. IsRefusedInNeed entry.room.region_len options.group entry.room.sealed first (commits_of done) txn.calls)
     pub flag : KeepsFlag old.full new.full next
     pub no_region : new.full ≡ true → HasNoRegion new.room.room
     pub told : AreTold entry new.room (total (shelf new.room new.view)) new.ended new.ended

@@ -2,6 +2,7 @@
 use Rattle.std.specs.Prelude.{◌≡◌, ◌⊎◌, ℕ, ◌+◌, ◌-◌, ◌≤◌, min, true, if◌then◌else◌, List, length, slice_set, Option, Some, None, Contains}
 use Rattle.fine_model.specs.declared.RunFault.{RunFault}
 use Rattle.fine_model.specs.declared.RunFault.TheVariants as run_fault
+use Rattle.fine_model.specs.Damages.{IsPlaceOrNode}
 use Rattle.fine_model.specs.Faults.{HasRisen, last_count}
 use Rattle.fine_model.specs.History.{Commit}
 use Rattle.epoch_room.specs.Value.{RoomValue}
@@ -29,12 +30,12 @@ ToldStays =
     (entry old new : RoomValue) (count now : ℕ) (ended told : List (Option RunFault)) → IsCountOf count now → old.disk.own_faults ≤ new.disk.own_faults → new.room.is_shut ≡ old.room.is_shut
     → AreTold entry old count ended told → AreTold entry new now ended told
 
--- What a fault that is told now has as its cause: a failed disk that the count of all faults rose, or that the room is shut; want of memory none; damage that no call failed, on an
--- unsound log.
+-- What a fault that is told now has as its cause: a failed disk that the count of all faults rose, or that the room is shut; want of memory none; damage that no call failed, of a
+-- place or a node, on an unsound log.
 abbrev pub HasCause : RoomValue → RoomValue → RoomValue → ℕ → ℕ → RunFault → Type 0
 HasCause entry old new count now run_fault.Disk = HasRisen count now ⊎ (new.room.is_shut ≡ true)
 HasCause entry old new count now run_fault.Memory = Unit {0}
-HasCause entry old new count now (run_fault.Damaged what) = (now ≡ count) × (new.room.is_shut ≡ old.room.is_shut) × OfSound entry (λ first e. ⊥)
+HasCause entry old new count now (run_fault.Damaged what) = (now ≡ count) × (new.room.is_shut ≡ old.room.is_shut) × IsPlaceOrNode what × OfSound entry (λ first e. ⊥)
 
 -- a fault more, which may have ended a lane
 pub record ToldOne (entry old new : RoomValue) (count now : ℕ) (ended after told more : List (Option RunFault)) (history : List Commit) (fault : RunFault) : Type 0 where

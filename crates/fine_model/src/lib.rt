@@ -26,10 +26,10 @@ pub use chain_laws::{
 };
 pub use law::{BucketLaw, Moment, OpenedEye, Origin, RoomLaw, RoomState, Span, ViewLaw, ViewState};
 pub use laws::{
-    agreement_law, agrees_law, calls_law, cut_law, epochs_law, fit_law, fitting_law,
-    keys_law, leaf_law, legal_law, map_law, mark_law, merge_law, merged_law, merged_run_law,
-    pushed_law, range_law, replay_law, row_law, scan_law, sealed_law, shown_law, shown_small_law,
-    small_law, unfit_law, upto_law, waiting_law, whole_law, whole_map_law,
+    agreement_law, agrees_law, calls_law, cut_law, epochs_law, fit_law, fitting_law, keys_law,
+    leaf_law, legal_law, map_law, mark_law, merge_law, merged_law, merged_run_law, pushed_law,
+    range_law, replay_law, row_law, scan_law, sealed_law, shown_law, shown_small_law, small_law,
+    unfit_law, upto_law, waiting_law, whole_law, whole_map_law,
 };
 pub use layout::{body_start, fits_in};
 pub use list::{Copied, Items, NoMemory};

@@ -63,7 +63,7 @@ module _ {B : Type 0} (stands_for : Origin → ℕ → B → List Commit → Typ
       };
       ends = λ none waits above. absurd (omega (arith, above));
     };
-    last_need = λ lane all first e began stands i txn rows is at pushed. inl refl;
+    last_need = λ lane all first e began stands i txn is at. absurd (nothing_at i (outcome.Refused why.Full) is.0);
     full_ends = record {
       known = λ i is. nothing_at i (outcome.Refused why.Full) is;
       some = λ is. absurd (let e : false ≡ true = is in cc);
@@ -79,6 +79,7 @@ module _ {B : Type 0} (stands_for : Origin → ℕ → B → List Commit → Typ
       where_risen = λ risen. absurd (omega (arith, risen));
       shut = λ is. absurd (let e : false ≡ true = sym ready.not_shut ∙ is in cc);
       unsound = λ what there. absurd (only_none 16 (run_fault.Damaged what) there);
+      placed = λ what there. absurd (only_none 16 (run_fault.Damaged what) there);
     };
     refused = λ first e began stands. record { each = λ i txn word is_txn is. nothing_at i (outcome.Refused word) is };
     stuck = λ is. absurd (let e : false ≡ true = is in cc);

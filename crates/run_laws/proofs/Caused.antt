@@ -63,6 +63,29 @@ behind turn place (outcome.Aborted ∷ outcomes) are (suc i) (suc j) at c before
 behind turn place (outcome.Refused word ∷ outcomes) are (suc i) (suc j) at c before is = behind (turn + 1) place outcomes are i j at c (omega (arith, before)) is
 behind turn place (outcome.NotRun ∷ outcomes) are (suc i) (suc j) at c before is = behind (turn + 1) place outcomes are i j at c (omega (arith, before)) is
 
+-- a place is above the number that was reached before
+above : (turn place : ℕ) (outcomes : List Outcome) → AreNumbered turn place outcomes → (j at : ℕ) (c : Commit) → IsCommittedAt outcomes j at c → place < at
+above turn place [] are j at c is = absurd (let e : ◌≡◌ {A = Option Outcome} None (Some (outcome.Committed at c.epoch c.entry)) = is in cc)
+above turn place (outcome.Committed p epoch entry ∷ outcomes) are zero at c is = let same : p ≡ at = cc in let number = are.0 in omega (arith, same, number)
+above turn place (outcome.Aborted ∷ outcomes) are zero at c is = absurd (let e : ◌≡◌ {A = Option Outcome} (Some outcome.Aborted) (Some (outcome.Committed at c.epoch c.entry)) = is in cc)
+above turn place (outcome.Refused word ∷ outcomes) are zero at c is = absurd (let e : ◌≡◌ {A = Option Outcome} (Some (outcome.Refused word)) (Some (outcome.Committed at c.epoch c.entry)) = is in cc)
+above turn place (outcome.NotRun ∷ outcomes) are zero at c is = absurd (let e : ◌≡◌ {A = Option Outcome} (Some outcome.NotRun) (Some (outcome.Committed at c.epoch c.entry)) = is in cc)
+above turn place (outcome.Committed p epoch entry ∷ outcomes) are (suc j) at c is = let h = above (turn + 1) (place + 1) outcomes are.2 j at c is in omega (arith, h)
+above turn place (outcome.Aborted ∷ outcomes) are (suc j) at c is = above (turn + 1) place outcomes are j at c is
+above turn place (outcome.Refused word ∷ outcomes) are (suc j) at c is = above (turn + 1) place outcomes are j at c is
+above turn place (outcome.NotRun ∷ outcomes) are (suc j) at c is = above (turn + 1) place outcomes are j at c is
+
+-- a later place is above all of theirs
+ahead : (turn place : ℕ) (outcomes : List Outcome) → AreNumbered turn place outcomes → (i j at : ℕ) (c : Commit) → i < j → IsCommittedAt outcomes j at c → place + length (commits_of (take i outcomes)) < at
+ahead turn place outcomes are zero j at c before is = let h = above turn place outcomes are j at c is in omega (arith, h)
+ahead turn place [] are (suc i) j at c before is = absurd (let e : ◌≡◌ {A = Option Outcome} None (Some (outcome.Committed at c.epoch c.entry)) = is in cc)
+ahead turn place (o ∷ outcomes) are (suc i) zero at c before is = absurd (omega (arith, before))
+ahead turn place (outcome.Committed p epoch entry ∷ outcomes) are (suc i) (suc j) at c before is =
+    let h = ahead (turn + 1) (place + 1) outcomes are.2 i j at c (omega (arith, before)) is in omega (arith, h)
+ahead turn place (outcome.Aborted ∷ outcomes) are (suc i) (suc j) at c before is = ahead (turn + 1) place outcomes are i j at c (omega (arith, before)) is
+ahead turn place (outcome.Refused word ∷ outcomes) are (suc i) (suc j) at c before is = ahead (turn + 1) place outcomes are i j at c (omega (arith, before)) is
+ahead turn place (outcome.NotRun ∷ outcomes) are (suc i) (suc j) at c before is = ahead (turn + 1) place outcomes are i j at c (omega (arith, before)) is
+
 -- they are those whose turns are at most their number
 low_turn : (n m : ℕ) → n ≤ m → nat_le n m ≡ true
 low_turn n m h = grind (arith, h)
@@ -116,6 +139,7 @@ module _ (script : List ScriptTxn) (outcomes : List Outcome) (room : RoomState) 
     k = length before;
     within = within i outcomes;
     behind = λ j place c order is. let h = behind 0 0 outcomes are j i place c order.0 is in omega (arith, h);
+    ahead = λ j place c order is. let h = ahead 0 0 outcomes are i j place c order.0 is in omega (arith, h);
     exact = λ one. counted 0 0 outcomes are i i (omega arith);
     holds = holds;
   }

@@ -190,6 +190,7 @@ module _ (script : List ScriptTxn) (options : Options) (entry room : RoomValue) 
       where_risen = λ risen. either (f.tells.where_risen risen);
       no_lower = (low, own_low);
       unsound = λ what is. f.tells.unsound what (among (run_fault.Damaged what) is);
+      placed = λ what is. f.tells.placed what (among (run_fault.Damaged what) is);
       one_each = λ is not first e began stands. subst (λ os. (lanes_not_run script os ≤ room.disk.faults - entry.disk.faults) ⊎ (last_count ≤ room.disk.faults)) (sym as_told) (by_disk not is first e began stands);
     };
   }

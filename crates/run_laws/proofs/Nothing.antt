@@ -9,6 +9,7 @@ use Rattle.fine_model.specs.declared.RunFault.{RunFault}
 use Rattle.fine_model.specs.declared.RunFault.TheVariants as run_fault
 use Rattle.fine_model.specs.declared.ScriptTxn.{ScriptTxn}
 use Rattle.fine_model.specs.declared.Why.{Why}
+use Rattle.fine_model.specs.declared.Why.TheVariants as why
 use Rattle.fine_model.specs.History.{Commit}
 use Rattle.fine_model.specs.Outcomes.{AllRun, AreOutcomes, IsCommittedAt, IsOutcomeOf}
 use Rattle.fine_model.specs.Report.{all_outcomes}
@@ -82,7 +83,7 @@ module _ (script : List ScriptTxn) (options : Options) (room : RoomValue) (ready
     all_run = all_run;
     few_each = λ lane e. omega arith;
     in_need = λ one first n began stands e next above is. absurd (let x : ◌≡◌ {A = Option Commit} None (Some next) = is in cc);
-    last_need = λ one first e began stands i txn rows is at pushed. inl refl;
+    last_need = λ one first e began stands i txn is at. absurd (not_refused (length script) i why.Full (subst (λ os. slice_get os i ≡ Some (outcome.Refused why.Full)) (sym (none_told script)) is.0));
     durable = refl;
     all_durable = λ to. refl;
     causes = λ after is first e began stands. record { each = λ i txn word is_txn is_refused. absurd (not_refused (length script) i word (subst (λ os. slice_get os i ≡ Some (outcome.Refused word)) (sym (none_told script)) is_refused)) };
@@ -91,6 +92,7 @@ module _ (script : List ScriptTxn) (options : Options) (room : RoomValue) (ready
       where_risen = λ risen. absurd (omega (arith, risen));
       no_lower = (le_refl room.disk.faults, le_refl room.disk.own_faults);
       unsound = λ what is first e began stands. let e : run_fault.Damaged what ≡ run_fault.Memory = only (run_fault.Damaged what) is in cc;
+      placed = λ what is. absurd (let e : run_fault.Damaged what ≡ run_fault.Memory = only (run_fault.Damaged what) is in cc);
       one_each = λ is not first e began stands. absurd (let e : run_fault.Disk ≡ run_fault.Memory = only run_fault.Disk is in cc);
     };
   }

@@ -233,6 +233,7 @@ behind_law script options old new ran r before parts ready told is_chain =
       unsound = λ what is e first shows sound.
           let began = subst (λ d. Began (origin_of d) e first) ready.at_entry (began_of old.disk before e first told shows sound) in
           r.fault.unsound what is first e began (ready.stands first e began);
+      placed = r.fault.placed;
     }
 
 pub status_law : StatusLaw

@@ -1,5 +1,5 @@
 -- One transaction more, and the end.
-use Rattle.std.proofs.Common.{◌≡◌, ◌⊎◌, inl, inr, ⊎_elim, ℕ, zero, suc, ◌+◌, ◌-◌, ◌<◌, Bool, true, false, List, [], ◌∷◌, ◌++◌, length, refl, sym, ap, ◌∙◌, subst, Option, Some, None, Ok, append-nil, arith}
+use Rattle.std.proofs.Common.{◌≡◌, ◌⊎◌, inl, inr, ⊎_elim, ℕ, zero, suc, ◌+◌, ◌-◌, ◌<◌, Bool, true, false, List, [], ◌∷◌, ◌++◌, length, refl, sym, ap, ◌∙◌, subst, Option, Some, None, append-nil, arith}
 use Rattle.std.specs.Prelude.{replicate, slice_get, slice_set, take}
 use Rattle.std.specs.List.{AllByRecursion, cons_option}
 use Rattle.std.proofs.lemmas.Option.{slice_get_within}
@@ -7,18 +7,18 @@ use Rattle.fine_model.specs.declared.Options.{Options}
 use Rattle.fine_model.specs.declared.Outcome.{Outcome}
 use Rattle.fine_model.specs.declared.Outcome.TheVariants as outcome
 use Rattle.fine_model.specs.declared.Row.{Row}
+use Rattle.fine_model.specs.declared.Call.{Call}
 use Rattle.fine_model.specs.declared.RunFault.{RunFault}
 use Rattle.fine_model.specs.declared.ScriptTxn.{ScriptTxn}
 use Rattle.fine_model.specs.declared.Why.TheVariants as why
 use Rattle.fine_model.specs.declared.law.Origin.{Origin}
 use Rattle.fine_model.specs.Buckets.{Began}
-use Rattle.fine_model.specs.Causes.{IsFullInNeed}
+use Rattle.fine_model.specs.Causes.{IsFullInNeed, IsRefusedInNeed}
 use Rattle.fine_model.specs.History.{Commit, all_rows}
 use Rattle.fine_model.specs.Outcomes.{IsCommittedAt}
-use Rattle.fine_model.specs.Pushed.{all_pushed}
 use Rattle.epoch_room.specs.Meaning.{Stands, origin_of}
 use Rattle.epoch_room.specs.Value.{RoomValue}
-use Rattle.run_laws.specs.Needs.{HadNeedBefore, RunsInNeed}
+use Rattle.run_laws.specs.Needs.{RunsInNeed}
 use Rattle.run_laws.specs.SoFar.{AreFewSoFar, Finished, FullEnds, GoesOn, IsEnd, IsStep, KeepsFlag, Serial, SoFar}
 use Rattle.run_laws.specs.Turns.{commit_of, commits_of}
 use Rattle.run_laws.proofs.Caused.{stays_refused}
@@ -61,8 +61,8 @@ full_ends_next done next old new f k = record {
     none i j place c before (inr (here, full)) (inr (there, is)) = omega (arith, before, here, there)
 
 module _ {B : Type 0} (stands_for : Origin → ℕ → B → List Commit → Type 0) (script : List ScriptTxn) (options : Options) (entry : RoomValue) where
-  abbrev HasNeed : List Commit → List Row → Type 0
-  HasNeed history rows = HadNeedBefore entry.room.region_len options.group entry.room.sealed history rows
+  abbrev HasNeed : List Row → List Commit → List Call → Type 0
+  HasNeed first history calls = IsRefusedInNeed entry.room.region_len options.group entry.room.sealed first history calls
 
   -- the step of the next transaction keeps what holds of the body
   pub steps : (i : ℕ) (txn : ScriptTxn) (next : Outcome) (old new : Serial B) (s : SoFar stands_for script options i entry old) → slice_get script i ≡ Some txn → IsStep stands_for script options i entry s.done txn next old new
@@ -99,14 +99,13 @@ module _ {B : Type 0} (stands_for : Origin → ℕ → B → List Commit → Typ
       -- where none was refused as full before, the next one may be the first
       last_need_next : (lane : ℕ) → AllByRecursion (λ t. t.lane ≡ lane) script → (first : List Row) (e : ℕ) → Began (origin_of entry.entry) e first → Stands entry first e []
           → IsFullInNeed entry.room.region_len options.group entry.room.sealed first script (s.done ++ next ∷ []) (commits_of (s.done ++ next ∷ []))
-      last_need_next lane all first e began stands k t rows is_first is_t pushed = by (old_at s.done next k (outcome.Refused why.Full) is_first.0)
+      last_need_next lane all first e began stands k t is_first is_t = by (old_at s.done next k (outcome.Refused why.Full) is_first.0)
         where
-          by : (slice_get s.done k ≡ Some (outcome.Refused why.Full)) ⊎ ((k ≡ length s.done) × (next ≡ outcome.Refused why.Full)) → HasNeed (commits_of (s.done ++ next ∷ [])) rows
+          by : (slice_get s.done k ≡ Some (outcome.Refused why.Full)) ⊎ ((k ≡ length s.done) × (next ≡ outcome.Refused why.Full)) → HasNeed first (commits_of (s.done ++ next ∷ [])) t.calls
           by (inl was) =
               let same = none_more (step.flag.none (s.full_ends.known k was)) in
-              subst (λ h. HasNeed h rows) (sym same)
-              (s.last_need lane all first e began stands k t rows (was, λ j before is. is_first.1 j before (kept s.done next j (outcome.Refused why.Full) is)) is_t
-              (subst (λ h. all_pushed (first ++ all_rows h) t.calls ≡ Ok rows) same pushed))
+              subst (λ h. HasNeed first h t.calls) (sym same)
+              (s.last_need lane all first e began stands k t (was, λ j before is. is_first.1 j before (kept s.done next j (outcome.Refused why.Full) is)) is_t)
           by (inr (here, full)) = by_flag old.full refl
             where
               same : commits_of (s.done ++ next ∷ []) ≡ commits_of s.done
@@ -115,18 +114,17 @@ module _ {B : Type 0} (stands_for : Origin → ℕ → B → List Commit → Typ
               same_txn : t ≡ txn
               same_txn = let x : Some t ≡ Some txn = sym is_t ∙ ap (slice_get script) (here ∙ s.so_far.count) ∙ at in cc
 
-              pushed_before : all_pushed (first ++ all_rows (commits_of s.done)) txn.calls ≡ Ok rows
-              pushed_before = subst (λ (x : ScriptTxn). all_pushed (first ++ all_rows (commits_of s.done)) x.calls ≡ Ok rows) same_txn (subst (λ h. all_pushed (first ++ all_rows h) t.calls ≡ Ok rows) same pushed)
-
               runs : RunsInNeed options.group txn.lane entry old.room old.full old.ended (commits_of s.done)
               runs = subst (λ n. RunsInNeed options.group n entry old.room old.full old.ended (commits_of s.done)) (sym (of_lane lane script i txn all at)) (s.in_need lane all)
 
-              by_flag : (b : Bool) → old.full ≡ b → HasNeed (commits_of (s.done ++ next ∷ [])) rows
+              by_flag : (b : Bool) → old.full ≡ b → HasNeed first (commits_of (s.done ++ next ∷ [])) t.calls
               by_flag true set =
                   let w = s.full_ends.some set in
                   let low = slice_get_within s.done w.0 (outcome.Refused why.Full) w.1 in
                   absurd (is_first.1 w.0 (omega (arith, low, here)) (kept s.done next w.0 (outcome.Refused why.Full) w.1))
-              by_flag false unset = subst (λ h. HasNeed h rows) (sym same) (step.full_need full unset runs first e began stands rows pushed_before)
+              by_flag false unset =
+                  subst (λ (x : ScriptTxn). HasNeed first (commits_of (s.done ++ next ∷ [])) x.calls) (sym same_txn)
+                  (subst (λ h. HasNeed first h txn.calls) (sym same) (step.full_need full unset runs first e began stands))
 
       set : slice_set (s.done ++ replicate (length script - i) outcome.NotRun) i next ≡ (s.done ++ next ∷ []) ++ replicate (length script - (i + 1)) outcome.NotRun
       set =

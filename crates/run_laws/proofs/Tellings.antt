@@ -3,6 +3,7 @@ use Rattle.std.proofs.Common.{◌≡◌, ◌⊎◌, inl, inr, ⊎_elim, ℕ, zer
 use Rattle.std.specs.Prelude.{Contains, nat_le, slice_get, slice_set, unwrap_or}
 use Rattle.fine_model.specs.declared.RunFault.{RunFault}
 use Rattle.fine_model.specs.declared.RunFault.TheVariants as run_fault
+use Rattle.fine_model.specs.Damages.{IsPlaceOrNode}
 use Rattle.fine_model.specs.Faults.{HasRisen, last_count}
 use Rattle.fine_model.specs.History.{Commit}
 use Rattle.epoch_room.specs.Meaning.{origin_of}
@@ -112,6 +113,7 @@ told_stays entry old new count now ended told same own shut t = record {
   where_risen = λ risen. t.where_risen (was_higher entry.disk.faults count now same risen);
   shut = λ is. t.shut (sym shut ∙ is);
   unsound = t.unsound;
+  placed = t.placed;
 }
   where
     by : OwnRose entry old ⊎ (lanes_failed ended + entry.disk.faults ≤ count) ⊎ (last_count ≤ count) → OwnRose entry new ⊎ (lanes_failed ended + entry.disk.faults ≤ now) ⊎ (last_count ≤ now)
@@ -177,6 +179,7 @@ module _ (entry old new : RoomValue) (count now : ℕ) (ended after told more : 
     where_risen = λ risen. inl s.adds.there;
     shut = λ is. inl s.adds.there;
     unsound = λ what there. t.unsound what (other_told run_fault.Disk s.adds (run_fault.Damaged what) (λ e. let x = e in cc) there);
+    placed = λ what there. t.placed what (other_told run_fault.Disk s.adds (run_fault.Damaged what) (λ e. let x = e in cc) there);
   }
     where
       failed : HasRisen count now ⊎ (new.room.is_shut ≡ true) → OwnRose entry new ⊎ (lanes_failed after + entry.disk.faults ≤ now) ⊎ (last_count ≤ now)
@@ -195,6 +198,7 @@ module _ (entry old new : RoomValue) (count now : ℕ) (ended after told more : 
     where_risen = λ risen. inr s.adds.there;
     shut = λ is. inr s.adds.there;
     unsound = λ what there. t.unsound what (other_told run_fault.Memory s.adds (run_fault.Damaged what) (λ e. let x = e in cc) there);
+    placed = λ what there. t.placed what (other_told run_fault.Memory s.adds (run_fault.Damaged what) (λ e. let x = e in cc) there);
   }
   told_more_by (run_fault.Damaged it) s = record {
     lanes = s.lanes;
@@ -204,7 +208,8 @@ module _ (entry old new : RoomValue) (count now : ℕ) (ended after told more : 
     only_risen = λ there. risen_later entry.disk.faults count now (t.only_risen (other_told (run_fault.Damaged it) s.adds run_fault.Disk (λ e. let x = e in cc) there)) s.no_lower.0;
     where_risen = λ risen. kept_told (t.where_risen (subst (λ n. entry.disk.faults < n) s.cause.0 risen));
     shut = λ is. kept_told (t.shut (sym s.cause.1 ∙ is));
-    unsound = λ what there. ⊎_elim (λ h. t.unsound what h) (λ e. s.cause.2) (s.adds.only (run_fault.Damaged what) there);
+    unsound = λ what there. ⊎_elim (λ h. t.unsound what h) (λ e. s.cause.2.1) (s.adds.only (run_fault.Damaged what) there);
+    placed = λ what there. ⊎_elim (λ h. t.placed what h) (λ e. subst IsPlaceOrNode (let x : run_fault.Damaged what ≡ run_fault.Damaged it = e in cc) s.cause.2.0) (s.adds.only (run_fault.Damaged what) there);
   }
     where
       kept_told : Contains told (Some run_fault.Disk) ⊎ Contains told (Some run_fault.Memory) → Contains more (Some run_fault.Disk) ⊎ Contains more (Some run_fault.Memory)

@@ -208,8 +208,8 @@ module _ (entry old new : RoomValue) (count now : ℕ) (ended after told more : 
     only_risen = λ there. risen_later entry.disk.faults count now (t.only_risen (other_told (run_fault.Damaged it) s.adds run_fault.Disk (λ e. let x = e in cc) there)) s.no_lower.0;
     where_risen = λ risen. kept_told (t.where_risen (subst (λ n. entry.disk.faults < n) s.cause.0 risen));
     shut = λ is. kept_told (t.shut (sym s.cause.1 ∙ is));
-    unsound = λ what there. ⊎_elim (λ h. t.unsound what h) (λ e. s.cause.2.1) (s.adds.only (run_fault.Damaged what) there);
-    placed = λ what there. ⊎_elim (λ h. t.placed what h) (λ e. subst IsPlaceOrNode (let x : run_fault.Damaged what ≡ run_fault.Damaged it = e in cc) s.cause.2.0) (s.adds.only (run_fault.Damaged what) there);
+    unsound = λ what there. ⊎_elim (λ h. t.unsound what h) (λ e. s.cause.3) (s.adds.only (run_fault.Damaged what) there);
+    placed = λ what there. ⊎_elim (λ h. t.placed what h) (λ e. subst IsPlaceOrNode (let x : run_fault.Damaged what ≡ run_fault.Damaged it = e in cc) s.cause.2) (s.adds.only (run_fault.Damaged what) there);
   }
     where
       kept_told : Contains told (Some run_fault.Disk) ⊎ Contains told (Some run_fault.Memory) → Contains more (Some run_fault.Disk) ⊎ Contains more (Some run_fault.Memory)

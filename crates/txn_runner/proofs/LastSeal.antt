@@ -11,10 +11,10 @@ use Rattle.fine_model.proofs.Histories.Epochs.{all_sealed}
 use Rattle.epoch_room.specs.Meaning.{origin_of}
 use Rattle.epoch_room.specs.Value.{RoomValue}
 use Rattle.run_laws.specs.Lanes.{first_fault, sooner, with_last}
-use Rattle.run_laws.specs.Runs.{IsReady, OwnRose}
+use Rattle.run_laws.specs.Runs.{IsReady, OwnRose, SealsLast}
 use Rattle.run_laws.specs.SoFar.{GoesOn}
 use Rattle.run_laws.proofs.Soonest.{soonest_with}
-use Rattle.txn_runner.specs.Left.{SealsLast, is_memory}
+use Rattle.txn_runner.specs.Steps.{is_memory}
 
 -- ---- want of memory
 

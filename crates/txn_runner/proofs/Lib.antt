@@ -2,6 +2,7 @@ pub mod Answering
 pub mod Calls
 pub mod Commits
 pub mod Exits
+pub mod Full
 pub mod LastSeal
 pub mod Looping
 pub mod Making

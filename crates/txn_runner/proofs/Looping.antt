@@ -1,5 +1,5 @@
 -- The transactions one after another, and the end.
-use Rattle.std.proofs.Common.{◌≡◌, inl, inr, ℕ, zero, suc, ◌+◌, ◌-◌, ◌<◌, ◌≤◌, Bool, false, List, [], ◌∷◌, ◌++◌, length, refl, sym, ap, true≢false, ◌∙◌, subst, Option, Some, None, arith}
+use Rattle.std.proofs.Common.{◌≡◌, inl, inr, ℕ, zero, suc, ◌+◌, ◌-◌, ◌<◌, ◌≤◌, false, List, [], ◌∷◌, ◌++◌, length, refl, sym, ap, ◌∙◌, subst, Option, Some, None, arith}
 use Rattle.std.specs.Prelude.{Contains, replicate, slice_get, slice_set, take}
 use Rattle.std.specs.List.{AllByRecursion}
 use Rattle.std.proofs.lemmas.List.{append-nil}
@@ -34,7 +34,7 @@ use Rattle.run_laws.proofs.Steps.{lane_ends_law, next_law}
 use Rattle.run_laws.proofs.Turns.{in_turn_law}
 use Rattle.txn_runner.specs.Body.{Body, IsBetween, RunsSoFar, serial}
 use Rattle.txn_runner.specs.Steps.{BehindTxns, Comes, IsClosed, RunsTxn, is_memory}
-use Rattle.txn_runner.proofs.LastSeal.{none_durable, seals_last}
+use Rattle.txn_runner.proofs.LastSeal.{seals_last}
 
 -- outcomes have one history
 first_in : (outcomes : List Outcome) (one other : List Commit) → IsHistoryOf outcomes one → IsHistoryOf outcomes other → (place : ℕ) (c : Commit) → slice_get one place ≡ Some c → slice_get other place ≡ Some c
@@ -177,14 +177,5 @@ module _ (script : List ScriptTxn) (options : Options) (entry : RoomValue) where
 
   -- ---- no memory to begin
 
-  none_begun : IsReady entry → RunsLanes script options entry entry (nothing_ran entry.room.sealed (Some run_fault.Memory))
-  none_begun ready = record {
-    run = run;
-    seals_last = record { all_durable = λ sealed low. none_durable entry run.history ready run.adds.has.places; some_wait = λ wanting. absurd (true≢false (sym wanting)); memory_told = λ wanting. refl };
-  }
-    where
-      run : RunsScript script options entry entry (nothing_ran entry.room.sealed (Some run_fault.Memory))
-      run = (nothing_law script options entry ready).0
-
   pub not_begun : (ran : Ran) → IsReady entry → ran ≡ nothing_ran entry.room.sealed (Some run_fault.Memory) → RunsLanes script options entry entry ran
-  not_begun ran ready is = subst (RunsLanes script options entry entry) (sym is) (none_begun ready)
+  not_begun ran ready is = subst (RunsLanes script options entry entry) (sym is) (nothing_law script options entry ready).0

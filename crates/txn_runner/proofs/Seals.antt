@@ -1,5 +1,5 @@
 -- What the seal of a group leaves, and the last seal of a run.
-use Rattle.std.proofs.Common.{◌≡◌, ◌⊎◌, inl, inr, ℕ, ◌+◌, ◌≤◌, true, false, List, refl, sym, ap, ◌∙◌, subst, Option, Some, None, Ok, Err, arith}
+use Rattle.std.proofs.Common.{◌≡◌, inl, inr, ℕ, ◌+◌, ◌≤◌, true, false, List, refl, sym, ap, ◌∙◌, subst, Option, Some, None, Ok, Err, arith}
 use Rattle.std.specs.Prelude.{Result}
 use Rattle.fine_model.specs.declared.RunFault.{RunFault}
 use Rattle.fine_model.specs.declared.RunFault.TheVariants as run_fault
@@ -14,7 +14,7 @@ use Rattle.room_steps.specs.Laws.{TellsNow}
 use Rattle.room_steps.specs.Steps as steps
 use Rattle.room_steps.specs.Steps.{SealsWaiting, Tidies}
 use Rattle.run_laws.specs.Lanes.{with_last}
-use Rattle.run_laws.specs.Needs.{IsSealed, Unsealed}
+use Rattle.run_laws.specs.Needs.{Unsealed}
 use Rattle.run_laws.specs.Runs.{IsReady}
 use Rattle.run_laws.specs.SoFar.{AreTold}
 use Rattle.run_laws.specs.Told.{TellsMore}

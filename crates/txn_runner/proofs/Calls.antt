@@ -116,7 +116,7 @@ module _ (old inside : RunnerValue) (is : inside ≡ old) (nodes : RoomValue) (o
       (subst (λ (a : Result (Unit {0}) TreeFault).
       OnOk a ((log : Origin) (low : ℕ) (history : List Commit) → opened.IsReady (tells_rows (sight old.room)) old.room.room.sealed log low before history → IsOpen log low history before now d)) is_ok
       (subst (λ (r : RoomValue).
-      OnOk answer ((log : Origin) (low : ℕ) (history : List Commit) → opened.IsReady (tells_rows (sight r)) r.room.sealed log low before history → IsOpen log low history before now d)) nodes_are open_now)))
+      OnOk answer ((log : Origin) (low : ℕ) (history : List Commit) → opened.IsReady (tells_rows (sight r)) r.room.sealed log low before history → IsOpen log low history before now d)) nodes_are open_now))
 
   module _ (fault : TreeFault) (is_err : answer ≡ Err fault) (fails : IfErr answer (FailsBy (λ failed. failed ≡ fetch_fault.NoMemory)))
       (refused : IfErr answer (λ f. (log : Origin) (low : ℕ) (history : List Commit) → opened.IsReady (tells_rows (sight nodes)) nodes.room.sealed log low before history → IsRefusal log low history before now calls f))

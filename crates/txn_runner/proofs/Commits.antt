@@ -222,8 +222,8 @@ module _ (abort : AbortLaw) (follows : FollowsLaw) (group : ℕ) (old made : Bod
         same : d.rows ≡ rows
         same = let x : ◌≡◌ {A = Result (List Row) Why} (Ok d.rows) (Ok rows) = sym (open_now.answered e first began).is_pushed ∙ pushed in cc
 
-    marks : (word : Why) → result ≡ Ok (Some word) → MakesOr (cost d.rows) (shelf_of old) (shelf_of made) old.full made.full (Ok (Some word)) → MarksFull group entry old new history d.calls (outcome.Refused word)
-    marks word is makes = record {
+    marks_refused : (word : Why) → result ≡ Ok (Some word) → MakesOr (cost d.rows) (shelf_of old) (shelf_of made) old.full made.full (Ok (Some word)) → MarksFull group entry old new history d.calls (outcome.Refused word)
+    marks_refused word is makes = record {
       flag = subst (λ full. KeepsFlag old.full full (outcome.Refused word)) (sym full_same) (flags.flag_refused (cost d.rows) old made result m word makes);
       full_need = λ (e : outcome.Refused word ≡ outcome.Refused why.Full). let same : word ≡ why.Full = (let x = e in cc) in had_need (is ∙ ap (λ w. Ok (Some w)) same);
     }
@@ -239,7 +239,7 @@ module _ (abort : AbortLaw) (follows : FollowsLaw) (group : ℕ) (old made : Bod
       },
       subst (λ (r : RoomValue). OfSound entry (λ first e. RefusesBehind r.room (first ++ all_rows history) d.calls word)) (sym room_same)
           (reason (let p = m.makes.leaves.places in omega (arith, p, some_place)) word makes),
-      marks word is makes,
+      marks_refused word is makes,
     )
       where
         makes : MakesOr (cost d.rows) (shelf_of old) (shelf_of made) old.full made.full (Ok (Some word))

@@ -1,6 +1,7 @@
 -- What making room says of a full log, and of the flag that it is.
 use Rattle.std.proofs.Common.{◌≡◌, ◌≢◌, ◌⊎◌, inl, inr, ℕ, Bool, true, false, refl, sym, ap, ◌∙◌, subst, Option, Some, None, Ok, Err, arith}
 use Rattle.std.specs.Prelude.{Result}
+use Rattle.fine_model.specs.declared.Entry.{Entry}
 use Rattle.fine_model.specs.declared.Outcome.{Outcome}
 use Rattle.fine_model.specs.declared.Outcome.TheVariants as outcome
 use Rattle.fine_model.specs.declared.RunFault.{RunFault}
@@ -93,7 +94,7 @@ module _ (need : ℕ) (old made : Body) (result : Result (Option Why) RunFault) 
           by true is = absurd (was_not (sym ok.2 ∙ is))
           by false is = is
 
-      pub flag_committed : (place epoch : ℕ) (e : _) (now : Bool) → now ≡ made.full → KeepsFlag old.full now (outcome.Committed place epoch e)
+      pub flag_committed : (place epoch : ℕ) (e : Entry) (now : Bool) → now ≡ made.full → KeepsFlag old.full now (outcome.Committed place epoch e)
       flag_committed place epoch e now same = record {
         stays = λ full. absurd (was_not full);
         sets = λ (is : outcome.Committed place epoch e ≡ outcome.Refused why.Full). absurd (let x = is in cc);

@@ -145,7 +145,7 @@ module _ (script : List ScriptTxn) (options : Options) (entry : RoomValue) where
         none : length script - length script ≡ 0
         none = omega arith
 
-    told : Ran
+    abbrev told : Ran
     told = record { outcomes = s.done; durable = new.room.room.sealed; fault = first_fault (with_last b.ended last); unsealed = is_memory last }
 
     run : RunsScript script options entry new.room told

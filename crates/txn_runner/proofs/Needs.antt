@@ -96,38 +96,45 @@ module _ (group : ℕ) (entry : RoomValue) (history : List Commit) where
       refused_ends why.Bucket is places ends = absurd is
       refused_ends why.Full is places ends = λ none above. inr (inl is.3)
 
+      -- what waited was sealed for the rows
+      had_some : 1 ≤ old.room.room.waiting → Long → (rows : List Row) → cost rows ≡ need → HadNeedBefore entry.room.region_len group entry.room.sealed history rows
+      had_some some long rows costs = inr (inr (subst (λ e. entry.room.region_len < short_header + used_in e history + cost rows) (sym last)
+          (let l : old.room.room.region_len ≡ entry.room.region_len = g.becomes.region_len in let k = costs in let used = n.used in omega (arith, long, l, k, used))))
+        where
+          last : last_epoch entry.room.sealed history ≡ old.room.room.sealed + 1
+          last = last_open entry.room.sealed old.room.room.sealed history g.epochs g.sealed
+              (subst (λ many. 1 ≤ many) (g.waiting ∙ sym (length-filter (λ (c : Commit). c.epoch == old.room.room.sealed + 1) history)) some)
+
+      -- or nothing waited
+      had_none : old.room.room.waiting ≡ 0 → (old.room.room.sealed ≡ greatest → ⊥) → old.full ≡ false → EndsInNeed group entry old.room old.full history → (rows : List Row)
+          → HadNeedBefore entry.room.region_len group entry.room.sealed history rows
+      had_none none not_greatest not ends rows = by (sealed_above entry.room.sealed old.room.room.sealed history g.epochs last)
+        where
+          last : old.room.room.sealed ≡ last_epoch entry.room.sealed history
+          last = all_sealed entry.room.sealed history old.room.room.sealed g.sealed (sym (length-filter (λ (c : Commit). c.epoch == old.room.room.sealed + 1) history ∙ sym g.waiting ∙ none))
+
+          of_need : (group ≤ count_by (λ (c : Commit). c.epoch == old.room.room.sealed) history) ⊎ (old.full ≡ true) ⊎ (old.room.room.sealed ≡ greatest) → HadNeedBefore entry.room.region_len group entry.room.sealed history rows
+          of_need (inl enough) = inr (inl (subst (λ e. group ≤ count_by (λ (c : Commit). c.epoch == e) history) last enough))
+          of_need (inr (inl full)) = absurd (true≢false (sym full ∙ not))
+          of_need (inr (inr top)) = absurd (not_greatest top)
+
+          by : (history ≡ []) ⊎ (entry.room.sealed < old.room.room.sealed) → HadNeedBefore entry.room.region_len group entry.room.sealed history rows
+          by (inl nothing) = inl nothing
+          by (inr above) = of_need (ends none above)
+
       -- where it is refused as full first, the epoch before was sealed in need
       pub had_need : result ≡ Ok (Some why.Full) → old.full ≡ false → EndsInNeed group entry old.room old.full history → (rows : List Row) → cost rows ≡ need → HadNeedBefore entry.room.region_len group entry.room.sealed history rows
       had_need is not ends rows costs = by (fit_of old.room.room need) refl m.makes.by_fit
         where
-          -- what waited was sealed for the rows
-          waited : 1 ≤ old.room.room.waiting → old.room.room.region_len < short_header + old.room.room.used + need → HadNeedBefore entry.room.region_len group entry.room.sealed history rows
-          waited some long = inr (inr (subst (λ e. entry.room.region_len < short_header + used_in e history + cost rows) (sym last)
-              (let l : old.room.room.region_len ≡ entry.room.region_len = g.becomes.region_len in let used = n.used in omega (arith, long, l, used, costs))))
-            where
-              last : last_epoch entry.room.sealed history ≡ old.room.room.sealed + 1
-              last = last_open entry.room.sealed old.room.room.sealed history g.epochs g.sealed
-                  (let c = length-filter (λ (c : Commit). c.epoch == old.room.room.sealed + 1) history in let w = g.waiting in omega (arith, c, w, some))
-
-          -- or nothing waited
-          none_waited : old.room.room.waiting ≡ 0 → (old.room.room.sealed ≡ greatest → ⊥) → HadNeedBefore entry.room.region_len group entry.room.sealed history rows
-          none_waited none not_greatest = ⊎_elim (λ nothing. inl nothing) (λ above. ⊎_elim (λ enough. inr (inl (subst (λ e. group ≤ count_by (λ c. c.epoch == e) history) last enough)))
-              (⊎_elim (λ full. absurd (true≢false (sym full ∙ not))) (λ top. absurd (not_greatest top))) (ends none above))
-              (sealed_above entry.room.sealed old.room.room.sealed history g.epochs last)
-            where
-              last : old.room.room.sealed ≡ last_epoch entry.room.sealed history
-              last = all_sealed entry.room.sealed history old.room.room.sealed g.sealed
-                  (sym (length-filter (λ (c : Commit). c.epoch == old.room.room.sealed + 1) history ∙ sym g.waiting ∙ none))
-
           by : (f : Fit) → fit_of old.room.room need ≡ f → ByFit old.full (shelf_of old) (shelf_of made) result f → HadNeedBefore entry.room.region_len group entry.room.sealed history rows
           by fit.Fits f b = absurd (let x : ◌≡◌ {A = Result (Option Why) RunFault} (Ok (Some why.Full)) (Ok None) = sym is ∙ b.1 in cc)
           by (fit.Shut epoch) f b = absurd (let x : ◌≡◌ {A = Result (Option Why) RunFault} (Ok (Some why.Full)) (Err run_fault.Disk) = sym is ∙ b.1 in cc)
           by (fit.Number epoch place) f b = absurd (let x : ◌≡◌ {A = Result (Option Why) RunFault} (Ok (Some why.Full)) (Ok (Some why.Number)) = sym is ∙ b.1 in cc)
           by (fit.TooLarge needed most) f b = absurd (let x : ◌≡◌ {A = Result (Option Why) RunFault} (Ok (Some why.Full)) (Ok (Some why.Large)) = sym is ∙ b.1 in cc)
           by (fit.Full free live retired) f b =
-              let t = tests_of old.room.room need (fit.Full free live retired) f in none_waited (no_region old.room.room g.no_job t.1).none_waits (not_last old.room.room t.0.left)
+              let t = tests_of old.room.room need (fit.Full free live retired) f in had_none (no_region old.room.room g.no_job t.1).none_waits (not_last old.room.room t.0.left) not ends rows
           by (fit.EpochFull needed most) f b =
-              waited (some_wait old.room need g.whole (ap is_epoch_full f)) (is_long old.room.room need (tests_of old.room.room need (fit.EpochFull needed most) f).1)
+              had_some (some_wait old.room need g.whole (ap is_epoch_full f)) (is_long old.room.room need (tests_of old.room.room need (fit.EpochFull needed most) f).1) rows costs
 
       -- where they fit, the log was not full
       module _ (ok : MakesOr need (shelf_of old) (shelf_of made) old.full made.full (Ok None)) where

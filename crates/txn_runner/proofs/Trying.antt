@@ -78,8 +78,8 @@ none_there ending.Commit word = refl
 none_there ending.Abort word = refl
 
 not_full : (end : Ending) (word : Why) → word ≢ why.Full → refused_as end word ≢ outcome.Refused why.Full
-not_full ending.Commit word not (e : outcome.Refused word ≡ outcome.Refused why.Full) = not (let x = e in cc)
-not_full ending.Abort word not (e : outcome.Aborted ≡ outcome.Refused why.Full) = let x = e in cc
+not_full ending.Commit word not = λ (e : outcome.Refused word ≡ outcome.Refused why.Full). not (let x = e in cc)
+not_full ending.Abort word not = λ (e : outcome.Aborted ≡ outcome.Refused why.Full). let x = e in cc
 
 -- the flag is as it was
 marks_same : (group : ℕ) (entry : RoomValue) (old new : Body) (history : List Commit) (calls : List Call) (next : Outcome) → new.full ≡ old.full → next ≢ outcome.Refused why.Full → commit_of next ≡ None → MarksFull group entry old new history calls next

@@ -114,8 +114,10 @@ no_view_cause entry old room (fetch_fault.BadRow region at) l = absurd l.why
 no_view_cause entry old room (fetch_fault.BadIndex region at) l = absurd l.why
 
 pub lacks_view : (group : ℕ) (old new : Body) (d : DraftValue) (calls : List Call) (fault : FetchFault) → Looks old new (Err fault) → Answers group old new d calls (Err (of_fetch fault))
-lacks_view group old new d calls fault l = (reads,
-  λ entry history ready b. (stand_later entry old new history b.stand reads.later buckets, told_with entry old new history (of_fetch fault) ready b.going.goes b.going.told reads low (cause entry)))
+lacks_view group old new d calls fault l = (
+  reads,
+  λ entry history ready b. (stand_later entry old new history b.stand reads.later buckets, told_with entry old new history (of_fetch fault) ready b.going.goes b.going.told reads low (cause entry)),
+)
   where
     none : new.view ≡ None
     none = ap (λ (x : Body). x.view) l.rest

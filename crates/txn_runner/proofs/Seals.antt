@@ -115,7 +115,7 @@ module _ (old : Body) (room : RoomValue) where
   closes epoch view s entry history ready g t = record {
     goes_on = s.leaves.goes_on entry history g.room;
     tells = alone entry room old.ended old.ended (subst (λ v. AreTold entry room (total (shelf room v)) old.ended old.ended) s.rested (told_still (shelf_of old) (shelf room view) entry old.ended old.ended s.seals.0.none_failed t));
-      becomes = s.leaves.becomes;
+    becomes = s.leaves.becomes;
     board = subst (λ v. IsShelf room.room v) s.rested s.leaves.shelf;
     sealed = λ open_room not. s.seals.1.waiting;
     some_wait = λ is. absurd (let e : ◌≡◌ {A = Option RunFault} None (Some run_fault.Memory) = is in cc);

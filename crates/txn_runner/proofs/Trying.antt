@@ -112,7 +112,7 @@ module _ (abort : AbortLaw) (group : ℕ) (old mid : Body) (d : DraftValue) (txn
     room_same : new.room ≡ mid.room
     room_same = ap (λ (b : Body). b.room) back.rest
 
-    aborted : (entry : RoomValue) (done : List Outcome) → IsReady entry → IsBetween group entry old (commits_of done) 
+    aborted : (entry : RoomValue) (done : List Outcome) → IsReady entry → IsBetween group entry old (commits_of done)
         → LeavesWell group entry old new (commits_of done) [] × IsTried entry done txn outcome.Aborted new × MarksFull group entry old new (commits_of done) txn.calls outcome.Aborted
     aborted entry done ready b = (
       record {

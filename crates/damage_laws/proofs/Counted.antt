@@ -9,7 +9,7 @@ use Rattle.fine_model.proofs.Ordered.Arranged.{lower_law, ordered_law}
 use Rattle.fine_model.proofs.Trees.LeafLaw.{content-push}
 use Rattle.fine_model.proofs.Merging.NodesIn.{is_node-self, same_node}
 use Rattle.fine_model.proofs.Merging.Unstable.{unstable_law}
-use Rattle.damage_laws.specs.Firm.{CountFrom, CountedLaw}
+use Rattle.damage_laws.specs.Counts.{CountFrom, CountedLaw}
 
 -- rows whose versions count behind what others leave in each node follow on these
 follow_on : (before rows : List Row) → ((id : NodeId) → CountFrom (content before id).1 (rows_of id rows)) → VersionsFollow before rows

@@ -23,8 +23,6 @@ use Rattle.partition_index.proofs.InGrammar.{HoldsRows, entry_is, entry_stands, 
 use Rattle.partition_index.proofs.InSpan.{own_in_span}
 use Rattle.partition_index.proofs.Halving.{AreAround, around_sought}
 use Rattle.partition_index.proofs.Sorted.{Stands, ascend_at}
-use Rattle.damage_laws.specs.Made.{KeptRowsLaw, SealedRowsLaw}
-use Rattle.damage_laws.proofs.Kept.{found_law}
 
 -- a node that is not among others, and the place where it would stand
 record IsPlaced (id : NodeId) (ids : List NodeId) : Type 0 where
@@ -183,9 +181,3 @@ module _ (eye : Eye) (p : Part) (rows : List Row) (id : NodeId) (seen : IsSeen e
       by : Stands id (nodes_in rows) ⊎ IsPlaced id (nodes_in rows) → ((rows_of id rows ≡ []) × LacksEntry p.header body id) ⊎ HasEntryWith p.header body id (rows_of id rows)
       by (inl s) = inr (has_entry s)
       by (inr s) = inl (not_named id rows s.none, lacks s)
-
-pub kept_rows : KeptRowsLaw
-kept_rows eye entry p rows seen t u = λ id. found_law eye.region_len entry t.image p id (rows_of id rows) u (good_finds eye p rows id seen t)
-
-pub sealed_rows : SealedRowsLaw
-sealed_rows region_len entry own rows same = λ id. same.of_each id

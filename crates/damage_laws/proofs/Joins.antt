@@ -4,7 +4,7 @@ use Rattle.node_fetch.proofs.Blames.{same_header}
 use Rattle.partition_index.specs.Search.{TellsRows}
 use Rattle.partition_merge.specs.Merging.{merged_of}
 use Rattle.damage_laws.specs.Made.{JoinsLaw, LookedUpLaw}
-use Rattle.damage_laws.proofs.FoundAgain.{looked_once}
+use Rattle.damage_laws.proofs.LookedOnce.{looked_once}
 use Rattle.damage_laws.proofs.GoodFinds.{good_finds}
 
 pub looked_up : LookedUpLaw

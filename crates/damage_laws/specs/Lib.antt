@@ -1,11 +1,3 @@
-pub mod Places
-pub mod Stays
-pub mod Looks
-pub mod Goings
+pub mod Counts
 pub mod Made
-pub mod Meets
-pub mod OpenTxns
-pub mod Again
-pub mod Firm
-pub mod Unbroken
-pub mod There
+pub mod Places

@@ -1,18 +1,16 @@
 -- What the parts that are there now were made of, and what is found in them by the bytes at entry. Each law is the contract of a function.
-use Rattle.std.specs.Prelude.{◌≡◌, ◌⊎◌, ℕ, IsTrue, List, [], ◌∷◌, ◌++◌, map, flat_map, Some}
+use Rattle.std.specs.Prelude.{◌≡◌, ℕ, List, [], ◌∷◌, ◌++◌, map, flat_map, Some}
 use Rattle.std.specs.List.{AllByRecursion}
 use Rattle.log_disk.specs.Disk.{Eye}
 use Rattle.fine_model.specs.declared.NodeId.{NodeId}
 use Rattle.fine_model.specs.declared.Part.{Part}
 use Rattle.fine_model.specs.declared.Row.{Row}
-use Rattle.fine_model.specs.Damages.{FindsContent, FindsMerged, FindsRows}
-use Rattle.fine_model.specs.Merge.{image_of, merged, merged_into, starts_afresh}
-use Rattle.fine_model.specs.Nodes.{Content, base, replay, rows_of}
+use Rattle.fine_model.specs.Damages.{FindsRows}
+use Rattle.fine_model.specs.Merge.{image_of, merged_into}
+use Rattle.fine_model.specs.Nodes.{base, replay, rows_of}
 use Rattle.fine_model.specs.Regions.{Image, HasHeader, IsSealed}
 use Rattle.fine_model.specs.VersionLaws.{HaveSameRows}
-use Rattle.node_fetch.specs.Fetched.{IsReplayOf}
 use Rattle.partition_index.specs.Parts.{IsSeen}
-use Rattle.partition_index.specs.Search.{TellsRows}
 use Rattle.partition_merge.specs.Joined.{IsFoundIn, IsMergedOf}
 use Rattle.damage_laws.specs.Places.{IsUnchanged}
 
@@ -76,20 +74,6 @@ SealedLaw =
 abbrev pub AreRowsAs : ℕ → Image → Made → List Row → Type 0
 AreRowsAs region_len entry m rows = (id : NodeId) → HasRows region_len entry id m (rows_of id rows)
 
--- so a part that is unchanged, where an eye tells it in the grammar with these rows, and so rows that were sealed
-abbrev pub KeptRowsLaw : Type 0
-KeptRowsLaw = (eye : Eye) (entry : Image) (p : Part) (rows : List Row) → IsSeen eye p → (t : TellsRows eye p rows) → IsUnchanged eye.region_len entry t.image p → AreRowsAs eye.region_len entry (one (at_entry p)) rows
-
-abbrev pub SealedRowsLaw : Type 0
-SealedRowsLaw = (region_len : ℕ) (entry : Image) (own rows : List Row) → HaveSameRows own rows → AreRowsAs region_len entry (one (since own)) rows
-
--- one that was merged of two lists of such rows has what they are merged into
-abbrev pub JoinedLaw : Type 0
-JoinedLaw =
-    (region_len : ℕ) (entry now : Image) (p : Part) (a b : Made) (older newer : List Row) → HasHeader region_len now p.region p.header
-    → IsSealed region_len now p.region p.header.range (merged older newer) → AreRowsAs region_len entry a older → AreRowsAs region_len entry b newer
-    → IsMadeOf region_len entry now (joined a b) p × AreRowsAs region_len entry (joined a b) (merged older newer)
-
 -- rows that stand behind others
 abbrev pub BesideLaw : Type 0
 BesideLaw =
@@ -118,26 +102,3 @@ JoinsLaw =
 -- lists of rows, one behind the other
 abbrev pub all_of : List (List Row) → List Row
 all_of lists = flat_map (λ rows. rows) lists
-
--- A content is what is found by the parts at entry, gone on by the rows of the node that were sealed since; or these rows leave it whatever was before, as
--- an image among them does; or some of the last lists leave it, whose rows of the node begin with an image or with its first version.
-abbrev pub FoundOn : ℕ → Image → List Part → NodeId → List (List Row) → Content → Type 0
-FoundOn region_len entry parts id sealed found =
-    ((c : Content) × FindsMerged region_len entry parts id c × (found ≡ replay c (rows_of id (all_of sealed))))
-    ⊎ ((c : Content) → found ≡ replay c (rows_of id (all_of sealed)))
-    ⊎ ((front back : List (List Row)) × (sealed ≡ front ++ back) × IsTrue (starts_afresh (rows_of id (all_of back))) × (found ≡ replay (base id) (rows_of id (all_of back))))
-
--- what is found of a node by such parts, as a relation says it
-abbrev pub FoundLaw : (ℕ → Image → List Part → NodeId → Content → Type 0) → Type 0
-FoundLaw Finds =
-    (region_len : ℕ) (was now : Image) (parts present : List Part) (sealed : List (List Row)) (id : NodeId) (found : Content) → AreMadeOf region_len was now parts sealed present
-    → Finds region_len now present id found → FoundOn region_len was parts id sealed found
-
-abbrev pub MergedLaw : Type 0
-MergedLaw = FoundLaw FindsContent
-
--- and by an eye that tells their bytes
-abbrev pub FetchLaw : Type 0
-FetchLaw =
-    (eye : Eye) (entry now : Image) (parts present : List Part) (sealed : List (List Row)) (id : NodeId) (found : Content) → eye.told ≡ Some now → AreMadeOf eye.region_len entry now parts sealed present
-    → IsReplayOf eye present id found → FoundOn eye.region_len entry parts id sealed found

@@ -5,7 +5,7 @@ use Rattle.fine_model.specs.declared.Part.{Part}
 use Rattle.fine_model.specs.declared.Row.{Row}
 use Rattle.fine_model.specs.Nodes.{rows_of}
 use Rattle.fine_model.specs.Regions.{Image}
-use Rattle.damage_laws.specs.Firm.{CountFrom}
+use Rattle.damage_laws.specs.Counts.{CountFrom}
 use Rattle.damage_laws.specs.Made.{AreMadeOf, all_of}
 use Rattle.damage_laws.specs.Places.{AreKeptOrGood}
 use Rattle.epoch_room.specs.Value.{RoomValue}

@@ -1,11 +1,11 @@
 -- What answering the calls of a transaction leaves.
-use Rattle.std.proofs.Common.{◌≡◌, refl, inl, inr, ℕ, ◌+◌, ◌≤◌, min, false, List, [], ◌++◌, sym, ap, ◌∙◌, subst, Option, Some, None, Ok, Err, arith}
+use Rattle.std.proofs.Common.{◌≡◌, ◌≢◌, refl, inl, inr, ℕ, ◌+◌, ◌<◌, ◌≤◌, min, false, List, [], ◌++◌, length, sym, ap, ◌∙◌, subst, Option, Some, None, Ok, Err, arith}
 use Rattle.std.specs.Prelude.{Result, if◌then◌else◌}
 use Rattle.fine_model.specs.declared.Call.{Call}
+use Rattle.fine_model.specs.declared.Damage.{Damage}
 use Rattle.fine_model.specs.declared.Damage.TheVariants as damage
 use Rattle.fine_model.specs.declared.FetchFault.{FetchFault}
 use Rattle.fine_model.specs.declared.FetchFault.TheVariants as fetch_fault
-use Rattle.fine_model.specs.declared.NodeId.{NodeId}
 use Rattle.fine_model.specs.declared.Row.{Row}
 use Rattle.fine_model.specs.declared.RunFault.{RunFault}
 use Rattle.fine_model.specs.declared.RunFault.TheVariants as run_fault
@@ -13,7 +13,6 @@ use Rattle.fine_model.specs.declared.Why.{Why}
 use Rattle.fine_model.specs.declared.Why.TheVariants as why
 use Rattle.fine_model.specs.declared.law.RoomState.{RoomState}
 use Rattle.fine_model.specs.Buckets.{Began}
-use Rattle.fine_model.specs.Damages.{IsDamageIn}
 use Rattle.fine_model.specs.Faults.{last_count}
 use Rattle.fine_model.specs.History.{Commit, all_rows, upto}
 use Rattle.fine_model.specs.Nodes.{Agrees}
@@ -23,7 +22,7 @@ use Rattle.btree_nodes.specs.declared.fault.TreeFault.TheVariants.{BucketFull, N
 use Rattle.txn_draft.specs.Answers.{FailsBy}
 use Rattle.txn_draft.specs.Drafts.{DraftValue}
 use Rattle.partition_hold.specs.Sources as source
-use Rattle.partition_hold.specs.Sources.{finds_in, tells_rows}
+use Rattle.partition_hold.specs.Sources.{tells_rows}
 use Rattle.partition_hold.specs.Views.{ViewValue}
 use Rattle.epoch_room.specs.Meaning.{Stands, origin_of}
 use Rattle.epoch_room.specs.Value.{RoomValue, all_regions}
@@ -36,10 +35,9 @@ use Rattle.room_shelf.proofs.Viewed.{later_itself}
 use Rattle.open_txn.specs.Buckets.{BucketsValue, StandAll}
 use Rattle.open_txn.specs.Opened as opened
 use Rattle.open_txn.specs.Opened.{AnswersCalls, IsOpen, IsRefusal, TellsHistory}
-use Rattle.open_txn.specs.Traces.{AllDone, StopsAt}
 use Rattle.room_steps.specs.Laws.{TellsNow}
 use Rattle.run_laws.specs.Lanes.{is_disk, lanes_failed}
-use Rattle.run_laws.specs.Runs.{IsDamageAt, IsReady, OfSound}
+use Rattle.run_laws.specs.Runs.{IsReady, OfSound}
 use Rattle.run_laws.specs.SoFar.{AreFewSoFar, AreTold, GoesOn}
 use Rattle.run_laws.specs.Told.{HasCause}
 use Rattle.run_laws.specs.Turns.{RefusesBehind}
@@ -47,13 +45,7 @@ use Rattle.run_laws.proofs.Going.{later_law, stays_law}
 use Rattle.run_laws.proofs.Readings.{legal_law, sees_law, unsound_law}
 use Rattle.run_laws.proofs.Tellings.{told_more, told_stays}
 use Rattle.txn_runner.specs.Body.{Body, Goes, IsBetween, Stand, count_of, shelf_of}
-use Rattle.txn_runner.specs.Follows.{Follows, IsSameLog, NamesAt}
-use Rattle.txn_runner.specs.Named.{Blames, BlamesCalls}
-use Rattle.txn_runner.specs.Opening.{IsRead}
 use Rattle.txn_runner.specs.Steps.{Answers, Behind, Looks, Reads, TakesBack, TellsWith, of_fetch, of_tree}
-use Rattle.txn_runner.proofs.Following as following
-use Rattle.txn_runner.proofs.Keeping.{blames_calls, load_bad, names_it, none_named, of_told, room_len}
-use Rattle.txn_runner.proofs.Opening as opening
 
 -- ---- what loads leave
 
@@ -71,6 +63,10 @@ own_low old new whole whole_new l = let a = l.becomes.own_faults in
 pub goes_later : (entry : RoomValue) (old new : Body) (history : List Commit) → Goes entry old history → Reads old new → Goes entry new history
 goes_later entry old new history g r = record {
   room = room_on entry old new history g.room r.whole r.later;
+  no_region = λ full. let n = g.no_region (sym r.full ∙ full) in record {
+    none_waits = ap (λ (s : RoomState). s.waiting) r.later.room ∙ n.none_waits;
+    few_free = subst (λ (s : RoomState). length s.free < 2) (sym r.later.room) n.few_free;
+  };
   stuck = λ full first e began stands. (r.later.becomes.stuck (g.stuck (sym r.full ∙ full) first e began stands)).stuck;
   view = r.shelf;
 }
@@ -83,21 +79,10 @@ pub told_later : (entry : RoomValue) (old new : Body) (history : List Commit) �
 told_later entry old new history g t r clean = subst (λ ended. AreTold entry new.room (count_of new) ended ended) (sym r.ended)
     (told_stays entry old.room new.room (count_of old) (count_of new) old.ended old.ended (inl clean.count) (own_low old new g.room.whole r.whole r.later) clean.shut t)
 
--- the same log, with the same open epoch
-same_log : (old new : Body) → IsLater (shelf_of old) (shelf_of new) → IsSameLog old.room.room new.room.room
-same_log old new l = record {
-  image = ap (λ (r : RoomState). r.image) l.room;
-  parts = ap (λ (r : RoomState). r.parts) l.room;
-  open_rows = ap (λ (r : RoomState). r.open_rows) l.room;
-  sealed = ap (λ (r : RoomState). r.sealed) l.room;
-}
-
 -- the buckets too, where they are the same
 pub stand_later : (entry : RoomValue) (old new : Body) (history : List Commit) → Stand entry old history → IsLater (shelf_of old) (shelf_of new) → new.buckets ≡ old.buckets → Stand entry new history
-stand_later entry old new history s l same = record {
-  all = subst (λ n. StandAll (origin_of entry.entry) n new.buckets history) (sym (sealed_same old new l)) (subst (λ b. StandAll (origin_of entry.entry) old.room.room.sealed b history) (sym same) s.all);
-  follows = subst (λ b. Follows (origin_of entry.entry) new.room.room b history) (sym same) (following.same (origin_of entry.entry) old.room.room new.room.room old.buckets history (same_log old new l) s.follows);
-}
+stand_later entry old new history s l same =
+    subst (λ n. StandAll (origin_of entry.entry) n new.buckets history) (sym (sealed_same old new l)) (subst (λ b. StandAll (origin_of entry.entry) old.room.room.sealed b history) (sym same) s)
 
 -- a fault is told, by its cause
 total_least : (a b : ℕ) → min a last_count ≤ a + b
@@ -128,14 +113,11 @@ no_view_cause entry old room fetch_fault.NoMemory l = tt
 no_view_cause entry old room (fetch_fault.BadRow region at) l = absurd l.why
 no_view_cause entry old room (fetch_fault.BadIndex region at) l = absurd l.why
 
-no_view_blames : (entry : RoomValue) (old : Body) (room : RoomValue) (fault : FetchFault) → LacksView old.room old.view room fault → Blames entry (of_fetch fault)
-no_view_blames entry old room fetch_fault.Failed l = none_named entry run_fault.Disk (λ what e. let x : run_fault.Disk ≡ run_fault.Damaged what = e in cc)
-no_view_blames entry old room fetch_fault.NoMemory l = none_named entry run_fault.Memory (λ what e. let x : run_fault.Memory ≡ run_fault.Damaged what = e in cc)
-no_view_blames entry old room (fetch_fault.BadRow region at) l = absurd l.why
-no_view_blames entry old room (fetch_fault.BadIndex region at) l = absurd l.why
-
 pub lacks_view : (group : ℕ) (old new : Body) (d : DraftValue) (calls : List Call) (fault : FetchFault) → Looks old new (Err fault) → Answers group old new d calls (Err (of_fetch fault))
-lacks_view group old new d calls fault l = (reads, λ entry history ready b. (stand_later entry old new history b.stand reads.later buckets, told_with entry old new history (of_fetch fault) ready b.going.goes b.going.told reads low (cause entry), blames_calls entry history calls (of_fetch fault) (no_view_blames entry old new.room fault l.room)))
+lacks_view group old new d calls fault l = (
+  reads,
+  λ entry history ready b. (stand_later entry old new history b.stand reads.later buckets, told_with entry old new history (of_fetch fault) ready b.going.goes b.going.told reads low (cause entry)),
+)
   where
     none : new.view ≡ None
     none = ap (λ (x : Body). x.view) l.rest
@@ -231,23 +213,10 @@ module _ (old seen : Body) (view : ViewValue) (Clean : Type 0) (Failing : FetchF
   -- the buckets, which stand for the history up to what is sealed
   is_ready : (entry : RoomValue) (history : List Commit) → IsReady entry → Goes entry old history → Stand entry old history → opened.IsReady (tells_rows view) view.upto (origin_of entry.entry) old.room.room.sealed seen.buckets history
   is_ready entry history ready g stand = record {
-    stand = subst (λ b. StandAll (origin_of entry.entry) old.room.room.sealed b history) (sym through.buckets) stand.all;
+    stand = subst (λ b. StandAll (origin_of entry.entry) old.room.room.sealed b history) (sym through.buckets) stand;
     most = let e : view.upto ≡ old.room.room.sealed = through.shows.upto ∙ sealed_same old seen through.reads.later in omega (arith, e);
     told = tells entry history ready g;
   }
-
-  -- what the calls find, by the bytes at entry too
-  is_read : (entry : RoomValue) (history : List Commit) → IsReady entry → Goes entry old history → Stand entry old history → IsRead (origin_of entry.entry) seen.room view seen.buckets history
-  is_read entry history ready g stand = record {
-    whole = through.reads.whole;
-    shows = through.shows;
-    region_len = room_len entry seen.room history ready (room_on entry old seen history g.room through.reads.whole through.reads.later);
-    stand = stand_now.all;
-    follows = stand_now.follows;
-  }
-    where
-      stand_now : Stand entry seen history
-      stand_now = stand_later entry old seen history stand through.reads.later through.buckets
 
   open_old : old.room.room.is_shut ≡ false
   open_old = sym through.shut ∙ through.shows.opened
@@ -256,21 +225,17 @@ module _ (old seen : Body) (view : ViewValue) (Clean : Type 0) (Failing : FetchF
     -- all were answered
     pub answered : (group : ℕ) → Clean → AnswersCalls calls d
         → ((log : _) (low : ℕ) (history : List Commit) → opened.IsReady (tells_rows view) view.upto log low seen.buckets history → IsOpen log low history seen.buckets now d)
-        → AllDone (tells_rows view) (finds_in view) view.upto calls d.rows seen.buckets now → Answers group old (with_buckets now) d calls (Ok None)
-    answered group clean answers open_now done = (
+        → Answers group old (with_buckets now) d calls (Ok None)
+    answered group clean answers open_now = (
       reads_with now,
       through.clean clean,
       answers,
-      λ entry history ready b. (
-        (seen.buckets, open_now (origin_of entry.entry) old.room.room.sealed history (is_ready entry history ready b.going.goes b.stand)),
-        opening.answers (origin_of entry.entry) seen.room view seen.buckets now history calls d.rows (is_read entry history ready b.going.goes b.stand) done,
-      ),
+      λ entry history ready b. (seen.buckets, open_now (origin_of entry.entry) old.room.room.sealed history (is_ready entry history ready b.going.goes b.stand)),
     )
 
     -- one was refused, and what was done is taken back
     module _ (new : Body) (back : TakesBack (with_buckets now) new) (fault : TreeFault)
-        (refused : (log : _) (low : ℕ) (history : List Commit) → opened.IsReady (tells_rows view) view.upto log low seen.buckets history → IsRefusal log low history seen.buckets now calls fault)
-        (stopped : StopsAt (tells_rows view) (finds_in view) view.upto calls fault seen.buckets now) where
+        (refused : (log : _) (low : ℕ) (history : List Commit) → opened.IsReady (tells_rows view) view.upto log low seen.buckets history → IsRefusal log low history seen.buckets now calls fault) where
       as_read : new ≡ with_buckets new.buckets
       as_read = back.rest
 
@@ -286,46 +251,38 @@ module _ (old seen : Body) (view : ViewValue) (Clean : Type 0) (Failing : FetchF
       refusal : (entry : RoomValue) (history : List Commit) → IsReady entry → Goes entry old history → Stand entry old history → IsRefusal (origin_of entry.entry) old.room.room.sealed history seen.buckets now calls fault
       refusal entry history ready g stand = refused (origin_of entry.entry) old.room.room.sealed history (is_ready entry history ready g stand)
 
-      all_back : (entry : RoomValue) (history : List Commit) → IsReady entry → Goes entry old history → Stand entry old history → StandAll (origin_of entry.entry) new.room.room.sealed new.buckets history
-      all_back entry history ready g stand =
+      pub stand_back : (entry : RoomValue) (history : List Commit) → IsReady entry → Goes entry old history → Stand entry old history → Stand entry new history
+      stand_back entry history ready g stand =
           let same = sealed_same old new reads_back.later in
           let low : old.room.room.sealed ≤ new.room.room.sealed = omega (arith, same) in
           let evicts : seen.room.room.sealed ≤ new.room.room.sealed = let e = ap (λ (x : RoomValue). x.room.sealed) room_is in omega (arith, e) in
           back.buckets (origin_of entry.entry) old.room.room.sealed new.room.room.sealed history seen.buckets (refusal entry history ready g stand).to_undo low evicts
 
-      pub stand_back : (entry : RoomValue) (history : List Commit) → IsReady entry → Goes entry old history → Stand entry old history → Stand entry new history
-      stand_back entry history ready g stand = record {
-        all = all_back entry history ready g stand;
-        follows = subst (λ (r : RoomValue). Follows (origin_of entry.entry) r.room new.buckets history) (sym room_is)
-            (opening.refuses (origin_of entry.entry) seen.room view seen.buckets now new.buckets history calls fault seen.room.room.sealed (is_read entry history ready g stand) stopped back.left
-            (subst (λ (r : RoomValue). StandAll (origin_of entry.entry) r.room.sealed new.buckets history) room_is (all_back entry history ready g stand)));
-      }
-
       -- for a reason that the definitions have
-      by_reason : (group : ℕ) (word : _) → Clean → ((entry : RoomValue) (history : List Commit) → IsReady entry → Goes entry old history → Stand entry old history
+      by_reason : (group : ℕ) (word : Why) → word ≢ why.Full → Clean → ((entry : RoomValue) (history : List Commit) → IsReady entry → Goes entry old history → Stand entry old history
           → OfSound entry (λ first e. RefusesBehind new.room.room (first ++ all_rows history) calls word)) → Answers group old new d calls (Ok (Some word))
-      by_reason group word clean why_not = (
+      by_reason group word not clean why_not = (
         reads_back,
         subst (IsClean (shelf_of old)) (sym shelf_is) (through.clean clean),
+        not,
         λ entry history ready b. (stand_back entry history ready b.going.goes b.stand, why_not entry history ready b.going.goes b.stand),
       )
 
       -- by a fault
       by_fault : (group : ℕ) (told : RunFault) → ((entry : RoomValue) (history : List Commit) → IsReady entry → Goes entry old history → Stand entry old history → HasCause entry old.room new.room (count_of old) (count_of new) told)
-          → ((entry : RoomValue) (history : List Commit) → IsReady entry → Goes entry old history → Stand entry old history → BlamesCalls entry history calls told) → Answers group old new d calls (Err told)
-      by_fault group told cause blames = (
+          → Answers group old new d calls (Err told)
+      by_fault group told cause = (
         reads_back,
-        λ entry history ready b. (stand_back entry history ready b.going.goes b.stand, told_with entry old new history told ready b.going.goes b.going.told reads_back low (cause entry history ready b.going.goes b.stand), blames entry history ready b.going.goes b.stand),
+        λ entry history ready b. (stand_back entry history ready b.going.goes b.stand, told_with entry old new history told ready b.going.goes b.going.told reads_back low (cause entry history ready b.going.goes b.stand)),
       )
         where
           low : count_of old ≤ count_of new
           low = subst (λ s. count_of old ≤ total s) (sym shelf_is) through.no_lower
 
       -- damage, which no failed call told
-      by_damage : (group : ℕ) (what : _) → Clean → ((entry : RoomValue) (history : List Commit) → IsReady entry → Goes entry old history → Stand entry old history → OfSound entry (λ first e. ⊥))
-          → ((entry : RoomValue) (history : List Commit) → IsReady entry → Goes entry old history → Stand entry old history → BlamesCalls entry history calls (run_fault.Damaged what)) → Answers group old new d calls (Err (run_fault.Damaged what))
-      by_damage group what clean unsound blames = by_fault group (run_fault.Damaged what) (λ entry history ready g stand. (is_clean.count, is_clean.shut, unsound entry history ready g stand))
-          blames
+      by_damage : (group : ℕ) (what : Damage) → Clean → ((entry : RoomValue) (history : List Commit) → IsReady entry → Goes entry old history → Stand entry old history → OfSound entry (λ first e. ⊥))
+          → Answers group old new d calls (Err (run_fault.Damaged what))
+      by_damage group what clean unsound = by_fault group (run_fault.Damaged what) (λ entry history ready g stand. (is_clean.count, is_clean.shut, unsound entry history ready g stand))
         where
           is_clean : IsClean (shelf_of old) (shelf_of new)
           is_clean = subst (IsClean (shelf_of old)) (sym shelf_is) (through.clean clean)
@@ -333,44 +290,23 @@ module _ (old seen : Body) (view : ViewValue) (Clean : Type 0) (Failing : FetchF
       bad : TellsNone (shelf_of old) → (entry : RoomValue) (history : List Commit) → Goes entry old history → OfSound entry (λ first e. ⊥)
       bad none entry history g = unsound_law entry old.room old.view history g.room open_old none
 
-      -- a place that a load names
-      place : (failed : FetchFault) (region at : ℕ) → NamesAt failed region at → Failing failed → (entry : RoomValue) (history : List Commit) → IsReady entry → Goes entry old history → Stand entry old history
-          → BlamesCalls entry history calls (run_fault.Damaged (damage.Region region at))
-      place failed region at names fails entry history ready g stand = blames_calls entry history calls (run_fault.Damaged (damage.Region region at)) (names_it entry (damage.Region region at) (load_bad entry old.room old.buckets history ready g.room stand.follows open_old (shelf_of old) (shelf_of seen) failed region at refl names
-          (through.fails failed fails)))
-
-      -- a node that a call names
-      node : (id : NodeId) → StopsAt (tells_rows view) (finds_in view) view.upto calls (Unfit id) seen.buckets now → (entry : RoomValue) (history : List Commit) → IsReady entry → Goes entry old history → Stand entry old history
-          → BlamesCalls entry history calls (run_fault.Damaged (damage.Node id))
-      node id stops entry history ready g stand script next what is = subst (IsDamageAt entry script history) (let x : run_fault.Damaged (damage.Node id) ≡ run_fault.Damaged what = is in let y : damage.Node id ≡ what = cc in y)
-          (of_told entry seen.room history ready (room_on entry old seen history g.room through.reads.whole through.reads.later) (λ n image parts. IsDamageIn (Ok script) ⊥ history n image parts (damage.Node id))
-          (opening.names (origin_of entry.entry) seen.room view seen.buckets now history calls id script next.place next.txn (is_read entry history ready g stand) stops next.there next.never next.of_txn))
-
-      no_disk : (entry : RoomValue) (history : List Commit) → BlamesCalls entry history calls run_fault.Disk
-      no_disk entry history = blames_calls entry history calls run_fault.Disk (none_named entry run_fault.Disk (λ what e. let x : run_fault.Disk ≡ run_fault.Damaged what = e in cc))
-
-      no_memory : (entry : RoomValue) (history : List Commit) → BlamesCalls entry history calls run_fault.Memory
-      no_memory entry history = blames_calls entry history calls run_fault.Memory (none_named entry run_fault.Memory (λ what e. let x : run_fault.Memory ≡ run_fault.Damaged what = e in cc))
-
       pub takes_back : (group : ℕ) → OnCleanAnswer {A = Unit {0}} (Err fault) Clean → FailsBy Failing fault → Answers group old new d calls (of_tree fault)
-      takes_back = by fault refused stopped
+      takes_back = by fault refused
         where
           by : (f : TreeFault) → ((log : _) (low : ℕ) (history : List Commit) → opened.IsReady (tells_rows view) view.upto log low seen.buckets history → IsRefusal log low history seen.buckets now calls f)
-              → StopsAt (tells_rows view) (finds_in view) view.upto calls f seen.buckets now → (group : ℕ) → OnCleanAnswer {A = Unit {0}} (Err f) Clean → FailsBy Failing f → Answers group old new d calls (of_tree f)
-          by (BucketFull next depth) refuses stops group clean fails = by_reason group why.Bucket clean (λ entry history ready g stand first e began stands.
+              → (group : ℕ) → OnCleanAnswer {A = Unit {0}} (Err f) Clean → FailsBy Failing f → Answers group old new d calls (of_tree f)
+          by (BucketFull next depth) refuses group clean fails = by_reason group why.Bucket (λ (e : why.Bucket ≡ why.Full). let x = e in cc) clean (λ entry history ready g stand first e began stands.
               (refuses (origin_of entry.entry) old.room.room.sealed history (is_ready entry history ready g stand)).cause e first began)
-          by (Number id) refuses stops group clean fails = by_reason group why.Number clean (λ entry history ready g stand first e began stands.
+          by (Number id) refuses group clean fails = by_reason group why.Number (λ (e : why.Number ≡ why.Full). let x = e in cc) clean (λ entry history ready g stand first e began stands.
               inl ((refuses (origin_of entry.entry) old.room.room.sealed history (is_ready entry history ready g stand)).cause e first began))
-          by (Unfit id) refuses stops group clean fails = by_damage group (damage.Node id) clean (λ entry history ready g stand first e began stands.
-              (refuses (origin_of entry.entry) old.room.room.sealed history (is_ready entry history ready g stand)).cause e first began) (node id stops)
-          by NoMemory refuses stops group clean fails = by_fault group run_fault.Memory (λ entry history ready g stand. tt) (λ entry history ready g stand. no_memory entry history)
-          by (Source fetch_fault.NoMemory) refuses stops group clean fails = by_fault group run_fault.Memory (λ entry history ready g stand. tt) (λ entry history ready g stand. no_memory entry history)
-          by (Source fetch_fault.Failed) refuses stops group clean fails = by_fault group run_fault.Disk (λ entry history ready g stand.
-              subst (λ s. Fails (shelf_of old) fetch_fault.Failed s) (sym shelf_is) (through.fails fetch_fault.Failed fails)) (λ entry history ready g stand. no_disk entry history)
-          by (Source (fetch_fault.BadRow region at)) refuses stops group clean fails = by_damage group (damage.Region region at) clean (λ entry history ready g stand. bad (through.fails (fetch_fault.BadRow region at) fails).0 entry history g)
-              (place (fetch_fault.BadRow region at) region at (inl refl) fails)
-          by (Source (fetch_fault.BadIndex region at)) refuses stops group clean fails = by_damage group (damage.Region region at) clean (λ entry history ready g stand. bad (through.fails (fetch_fault.BadIndex region at) fails).0 entry history g)
-              (place (fetch_fault.BadIndex region at) region at (inr refl) fails)
+          by (Unfit id) refuses group clean fails = by_damage group (damage.Node id) clean (λ entry history ready g stand first e began stands.
+              (refuses (origin_of entry.entry) old.room.room.sealed history (is_ready entry history ready g stand)).cause e first began)
+          by NoMemory refuses group clean fails = by_fault group run_fault.Memory (λ entry history ready g stand. tt)
+          by (Source fetch_fault.NoMemory) refuses group clean fails = by_fault group run_fault.Memory (λ entry history ready g stand. tt)
+          by (Source fetch_fault.Failed) refuses group clean fails = by_fault group run_fault.Disk (λ entry history ready g stand.
+              subst (λ s. Fails (shelf_of old) fetch_fault.Failed s) (sym shelf_is) (through.fails fetch_fault.Failed fails))
+          by (Source (fetch_fault.BadRow region at)) refuses group clean fails = by_damage group (damage.Region region at) clean (λ entry history ready g stand. bad (through.fails (fetch_fault.BadRow region at) fails).0 entry history g)
+          by (Source (fetch_fault.BadIndex region at)) refuses group clean fails = by_damage group (damage.Region region at) clean (λ entry history ready g stand. bad (through.fails (fetch_fault.BadIndex region at) fails).0 entry history g)
 
 -- ---- the nodes that are cached did not do
 
@@ -384,11 +320,11 @@ answers_from group old buckets new d calls result stands = by result
 
     between : (entry : RoomValue) (history : List Commit) → IsReady entry → IsBetween group entry old history → IsBetween group entry (record old { buckets = buckets }) history
     between entry history ready b = record {
-      going = record { goes = record { room = b.going.goes.room; stuck = b.going.goes.stuck; view = b.going.goes.view }; few = b.going.few; told = b.going.told };
+      going = record { goes = record { room = b.going.goes.room; no_region = b.going.goes.no_region; stuck = b.going.goes.stuck; view = b.going.goes.view }; few = b.going.few; told = b.going.told };
       stand = stands entry history ready b;
     }
 
     by : (r : Result (Option Why) RunFault) → Answers group (record old { buckets = buckets }) new d calls r → Answers group old new d calls r
     by (Ok None) a = (reads_from a.0, a.1, a.2, λ entry history ready b. a.3 entry history ready (between entry history ready b))
-    by (Ok (Some word)) a = (reads_from a.0, a.1, λ entry history ready b. a.2 entry history ready (between entry history ready b))
+    by (Ok (Some word)) a = (reads_from a.0, a.1, a.2, λ entry history ready b. a.3 entry history ready (between entry history ready b))
     by (Err fault) a = (reads_from a.0, λ entry history ready b. a.1 entry history ready (between entry history ready b))

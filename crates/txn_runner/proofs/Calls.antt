@@ -18,7 +18,7 @@ use Rattle.btree_nodes.specs.declared.fault.TreeFault.{TreeFault}
 use Rattle.txn_draft.specs.Answers.{FailsBy}
 use Rattle.txn_draft.specs.Drafts.{DraftValue}
 use Rattle.partition_hold.specs.Sources as source
-use Rattle.partition_hold.specs.Sources.{finds_in, tells_rows}
+use Rattle.partition_hold.specs.Sources.{tells_rows}
 use Rattle.partition_hold.specs.Views.{ViewValue}
 use Rattle.epoch_room.specs.Fitting.{fit_of}
 use Rattle.epoch_room.specs.Steps.{appended}
@@ -29,7 +29,6 @@ use Rattle.room_shelf.specs.Shelves.{IsShelf, sight}
 use Rattle.open_txn.specs.Buckets.{BucketsValue}
 use Rattle.open_txn.specs.Opened as opened
 use Rattle.open_txn.specs.Opened.{AnswersCalls, IsOpen, IsRefusal}
-use Rattle.open_txn.specs.Traces.{AllDone, StopsAt}
 use Rattle.open_txn.proofs.Ended.{abort_law, follows_law}
 use Rattle.txn_runner.specs.Body.{Body, IsHeld, RunnerValue, body}
 use Rattle.txn_runner.specs.Steps.{Answers, AnswersCached, Appends, Looks, MakesPlace, TakesBack, TriesToCommit, of_fetch, of_tree}
@@ -57,26 +56,24 @@ module _ (old looked : RunnerValue) (looking : Result ViewValue FetchFault) (loo
 
     pub answers : (u : Unit {0}) → answer ≡ Ok u → OnOk answer (AnswersCalls calls d)
         → OnOk answer ((log : Origin) (low : ℕ) (history : List Commit) → opened.IsReady (tells_rows view) view.upto log low before history → IsOpen log low history before now d)
-        → OnOk answer (AllDone (tells_rows view) (finds_in view) view.upto calls d.rows before now) → (group : ℕ) → Answers group (body old before) (body again now) d calls (Ok None)
-    answers u is_ok all open_now done group = subst (λ (v : RunnerValue). Answers group (body old before) (body (record { room = v.room; view = Some read; full = v.full; ended = v.ended }) now) d calls (Ok None)) (sym is)
+        → (group : ℕ) → Answers group (body old before) (body again now) d calls (Ok None)
+    answers u is_ok all open_now group = subst (λ (v : RunnerValue). Answers group (body old before) (body (record { room = v.room; view = Some read; full = v.full; ended = v.ended }) now) d calls (Ok None)) (sym is)
         (answering.answered (body old before) (body (record { room = looked.room; view = Some read; full = looked.full; ended = looked.ended }) before) view (source.IsClean view read) (λ failed. source.Fails view failed read) through now d calls group
         (subst (λ (a : Result (Unit {0}) TreeFault). OnCleanAnswer a (source.IsClean view read)) is_ok clean)
         (subst (λ (a : Result (Unit {0}) TreeFault). OnOk a (AnswersCalls calls d)) is_ok all)
         (subst (λ (a : Result (Unit {0}) TreeFault).
-        OnOk a ((log : Origin) (low : ℕ) (history : List Commit) → opened.IsReady (tells_rows view) view.upto log low before history → IsOpen log low history before now d)) is_ok open_now)
-        (subst (λ (a : Result (Unit {0}) TreeFault). OnOk a (AllDone (tells_rows view) (finds_in view) view.upto calls d.rows before now)) is_ok done))
+        OnOk a ((log : Origin) (low : ℕ) (history : List Commit) → opened.IsReady (tells_rows view) view.upto log low before history → IsOpen log low history before now d)) is_ok open_now))
 
     pub refuses : (fault : TreeFault) → answer ≡ Err fault → IfErr answer (FailsBy (λ failed. source.Fails view failed read))
         → IfErr answer (λ f. (log : Origin) (low : ℕ) (history : List Commit) → opened.IsReady (tells_rows view) view.upto log low before history → IsRefusal log low history before now calls f)
-        → IfErr answer (λ f. StopsAt (tells_rows view) (finds_in view) view.upto calls f before now) → (new : BucketsValue) → TakesBack (body again now) (body again new) → (told : Result (Option Why) RunFault) → told ≡ of_tree fault → (group : ℕ) → Answers group (body old before) (body again new) d calls told
-    refuses fault is_err fails refused stopped new back told is_told group = subst (Answers group (body old before) (body again new) d calls) (sym is_told)
+        → (new : BucketsValue) → TakesBack (body again now) (body again new) → (told : Result (Option Why) RunFault) → told ≡ of_tree fault → (group : ℕ) → Answers group (body old before) (body again new) d calls told
+    refuses fault is_err fails refused new back told is_told group = subst (Answers group (body old before) (body again new) d calls) (sym is_told)
         (subst (λ (v : RunnerValue).
         TakesBack (body (record { room = v.room; view = Some read; full = v.full; ended = v.ended }) now) (body (record { room = v.room; view = Some read; full = v.full; ended = v.ended }) new)
         → Answers group (body old before) (body (record { room = v.room; view = Some read; full = v.full; ended = v.ended }) new) d calls (of_tree fault)) (sym is)
         (λ taken. answering.takes_back (body old before) (body (record { room = looked.room; view = Some read; full = looked.full; ended = looked.ended }) before) view (source.IsClean view read) (λ failed. source.Fails view failed read) through now d calls (body (record { room = looked.room; view = Some read; full = looked.full; ended = looked.ended }) new) taken fault
         (subst (λ (a : Result (Unit {0}) TreeFault).
         IfErr a (λ f. (log : Origin) (low : ℕ) (history : List Commit) → opened.IsReady (tells_rows view) view.upto log low before history → IsRefusal log low history before now calls f)) is_err refused)
-        (subst (λ (a : Result (Unit {0}) TreeFault). IfErr a (λ f. StopsAt (tells_rows view) (finds_in view) view.upto calls f before now)) is_err stopped)
         group
         (subst (λ (a : Result (Unit {0}) TreeFault). OnCleanAnswer a (source.IsClean view read)) is_err clean)
         (subst (λ (a : Result (Unit {0}) TreeFault). IfErr a (FailsBy (λ failed. source.Fails view failed read))) is_err fails)) back)
@@ -89,18 +86,17 @@ module _ (old : RunnerValue) (whole : IsWhole old.room) (on_shelf : IsShelf old.
 
   all_answered : (group : ℕ) → Clean → AnswersCalls calls d
       → ((log : Origin) (low : ℕ) (history : List Commit) → opened.IsReady (tells_rows (sight old.room)) old.room.room.sealed log low before history → IsOpen log low history before now d)
-      → AllDone (tells_rows (sight old.room)) (finds_in (sight old.room)) old.room.room.sealed calls d.rows before now → Answers group (body old before) (body old now) d calls (Ok None)
-  all_answered group clean all open_now done = answering.answered (body old before) (body old before) (sight old.room) Clean (λ failed. failed ≡ fetch_fault.NoMemory) through_cached now d calls group clean all open_now done
+      → Answers group (body old before) (body old now) d calls (Ok None)
+  all_answered group clean all open_now = answering.answered (body old before) (body old before) (sight old.room) Clean (λ failed. failed ≡ fetch_fault.NoMemory) through_cached now d calls group clean all open_now
 
   module _ (new : BucketsValue) (back : TakesBack (body old now) (body old new)) (fault : TreeFault)
-      (refused : (log : Origin) (low : ℕ) (history : List Commit) → opened.IsReady (tells_rows (sight old.room)) old.room.room.sealed log low before history → IsRefusal log low history before now calls fault)
-      (stopped : StopsAt (tells_rows (sight old.room)) (finds_in (sight old.room)) old.room.room.sealed calls fault before now) where
+      (refused : (log : Origin) (low : ℕ) (history : List Commit) → opened.IsReady (tells_rows (sight old.room)) old.room.room.sealed log low before history → IsRefusal log low history before now calls fault) where
     one_refused : (group : ℕ) → OnCleanAnswer {A = Unit {0}} (Err fault) Clean → FailsBy (λ failed. failed ≡ fetch_fault.NoMemory) fault → Answers group (body old before) (body old new) d calls (of_tree fault)
-    one_refused group clean fails = answering.takes_back (body old before) (body old before) (sight old.room) Clean (λ failed. failed ≡ fetch_fault.NoMemory) through_cached now d calls (body old new) back fault refused stopped group clean fails
+    one_refused group clean fails = answering.takes_back (body old before) (body old before) (sight old.room) Clean (λ failed. failed ≡ fetch_fault.NoMemory) through_cached now d calls (body old new) back fault refused group clean fails
 
     one_missed : (group : ℕ) → AnswersCached group (body old before) (body old new) d calls None
     one_missed group entry history ready b =
-        answering.stand_back (body old before) (body old before) (sight old.room) Clean (λ failed. failed ≡ fetch_fault.NoMemory) through_cached now d calls (body old new) back fault refused stopped entry history ready b.going.goes b.stand
+        answering.stand_back (body old before) (body old before) (sight old.room) Clean (λ failed. failed ≡ fetch_fault.NoMemory) through_cached now d calls (body old new) back fault refused entry history ready b.going.goes b.stand
 
 -- what the source is made of: the room of the runner, which is opened before its parts are used
 module _ (old inside : RunnerValue) (is : inside ≡ old) (nodes : RoomValue) (of_room : nodes ≡ inside.room) (whole : IsWhole inside.room) (on_shelf : IsShelf old.room.room old.view) (open_room : old.room.room.is_shut ≡ false) (before now : BucketsValue) (d : DraftValue) (calls : List Call)
@@ -113,38 +109,32 @@ module _ (old inside : RunnerValue) (is : inside ≡ old) (nodes : RoomValue) (o
 
   pub answers_cached : (u : Unit {0}) → answer ≡ Ok u → OnOk answer (AnswersCalls calls d)
       → OnOk answer ((log : Origin) (low : ℕ) (history : List Commit) → opened.IsReady (tells_rows (sight nodes)) nodes.room.sealed log low before history → IsOpen log low history before now d)
-      → OnOk answer (AllDone (tells_rows (sight nodes)) (finds_in (sight nodes)) nodes.room.sealed calls d.rows before now) → (group : ℕ) → AnswersCached group (body old before) (body old now) d calls (Some (Ok None))
-  answers_cached u is_ok all open_now done group = all_answered old whole_old on_shelf open_room before now d calls Clean group
+      → (group : ℕ) → AnswersCached group (body old before) (body old now) d calls (Some (Ok None))
+  answers_cached u is_ok all open_now group = all_answered old whole_old on_shelf open_room before now d calls Clean group
       (subst (λ (a : Result (Unit {0}) TreeFault). OnCleanAnswer a Clean) is_ok clean)
       (subst (λ (a : Result (Unit {0}) TreeFault). OnOk a (AnswersCalls calls d)) is_ok all)
       (subst (λ (a : Result (Unit {0}) TreeFault).
       OnOk a ((log : Origin) (low : ℕ) (history : List Commit) → opened.IsReady (tells_rows (sight old.room)) old.room.room.sealed log low before history → IsOpen log low history before now d)) is_ok
       (subst (λ (r : RoomValue).
       OnOk answer ((log : Origin) (low : ℕ) (history : List Commit) → opened.IsReady (tells_rows (sight r)) r.room.sealed log low before history → IsOpen log low history before now d)) nodes_are open_now))
-      (subst (λ (a : Result (Unit {0}) TreeFault). OnOk a (AllDone (tells_rows (sight old.room)) (finds_in (sight old.room)) old.room.room.sealed calls d.rows before now)) is_ok
-      (subst (λ (r : RoomValue). OnOk answer (AllDone (tells_rows (sight r)) (finds_in (sight r)) r.room.sealed calls d.rows before now)) nodes_are done))
 
   module _ (fault : TreeFault) (is_err : answer ≡ Err fault) (fails : IfErr answer (FailsBy (λ failed. failed ≡ fetch_fault.NoMemory)))
       (refused : IfErr answer (λ f. (log : Origin) (low : ℕ) (history : List Commit) → opened.IsReady (tells_rows (sight nodes)) nodes.room.sealed log low before history → IsRefusal log low history before now calls f))
-      (stopped : IfErr answer (λ f. StopsAt (tells_rows (sight nodes)) (finds_in (sight nodes)) nodes.room.sealed calls f before now)) (new : BucketsValue) (back : TakesBack (body old now) (body old new)) where
+      (new : BucketsValue) (back : TakesBack (body old now) (body old new)) where
     refused_by : (log : Origin) (low : ℕ) (history : List Commit) → opened.IsReady (tells_rows (sight old.room)) old.room.room.sealed log low before history → IsRefusal log low history before now calls fault
     refused_by = subst (λ (a : Result (Unit {0}) TreeFault).
         IfErr a (λ f. (log : Origin) (low : ℕ) (history : List Commit) → opened.IsReady (tells_rows (sight old.room)) old.room.room.sealed log low before history → IsRefusal log low history before now calls f)) is_err
         (subst (λ (r : RoomValue).
         IfErr answer (λ f. (log : Origin) (low : ℕ) (history : List Commit) → opened.IsReady (tells_rows (sight r)) r.room.sealed log low before history → IsRefusal log low history before now calls f)) nodes_are refused)
 
-    stopped_by : StopsAt (tells_rows (sight old.room)) (finds_in (sight old.room)) old.room.room.sealed calls fault before now
-    stopped_by = subst (λ (a : Result (Unit {0}) TreeFault). IfErr a (λ f. StopsAt (tells_rows (sight old.room)) (finds_in (sight old.room)) old.room.room.sealed calls f before now)) is_err
-        (subst (λ (r : RoomValue). IfErr answer (λ f. StopsAt (tells_rows (sight r)) (finds_in (sight r)) r.room.sealed calls f before now)) nodes_are stopped)
-
     pub refuses_cached : (told : Result (Option Why) RunFault) → told ≡ of_tree fault → (group : ℕ) → AnswersCached group (body old before) (body old new) d calls (Some told)
     refuses_cached told is_told group = subst (Answers group (body old before) (body old new) d calls) (sym is_told)
-        (one_refused old whole_old on_shelf open_room before now d calls Clean new back fault refused_by stopped_by group
+        (one_refused old whole_old on_shelf open_room before now d calls Clean new back fault refused_by group
         (subst (λ (a : Result (Unit {0}) TreeFault). OnCleanAnswer a Clean) is_err clean)
         (subst (λ (a : Result (Unit {0}) TreeFault). IfErr a (FailsBy (λ failed. failed ≡ fetch_fault.NoMemory))) is_err fails))
 
     pub misses_cached : (group : ℕ) → AnswersCached group (body old before) (body old new) d calls None
-    misses_cached = one_missed old whole_old on_shelf open_room before now d calls Clean new back fault refused_by stopped_by
+    misses_cached = one_missed old whole_old on_shelf open_room before now d calls Clean new back fault refused_by
 
 -- ---- and then through the view
 

@@ -1,5 +1,5 @@
 -- What a commit leaves, and what is left where it is refused.
-use Rattle.std.proofs.Common.{◌≡◌, inl, inr, ⊎_elim, ℕ, ◌+◌, ◌<◌, ◌≤◌, List, [], ◌∷◌, ◌++◌, length, refl, sym, ap, ◌∙◌, subst, Option, Some, None, Ok, Err, arith}
+use Rattle.std.proofs.Common.{◌≡◌, inl, inr, ⊎_elim, ℕ, ◌+◌, ◌<◌, ◌≤◌, false, List, [], ◌∷◌, ◌++◌, length, refl, sym, ap, ◌∙◌, subst, true≢false, Option, Some, None, Ok, Err, arith}
 use Rattle.std.specs.Prelude.{All, Result}
 use Rattle.fine_model.specs.declared.Outcome.{Outcome}
 use Rattle.fine_model.specs.declared.Outcome.TheVariants as outcome
@@ -24,21 +24,18 @@ use Rattle.open_txn.specs.Buckets.{BucketsValue, StandAll}
 use Rattle.open_txn.specs.Opened.{AbortLaw, FollowsLaw, IsOpen, IsToUndo}
 use Rattle.room_steps.specs.Steps.{MakesOr}
 use Rattle.run_laws.specs.Going.{Commits}
-use Rattle.run_laws.specs.Needs.{EndsInNeed, IsInNeed}
+use Rattle.run_laws.specs.Needs.{EndsInNeed, HadNeedBefore, IsInNeed}
 use Rattle.run_laws.specs.Runs.{IsReady, OfSound}
-use Rattle.run_laws.specs.SoFar.{AreFewSoFar, AreTold, GoesOn}
+use Rattle.run_laws.specs.SoFar.{AreFewSoFar, AreTold, GoesOn, KeepsFlag}
 use Rattle.run_laws.specs.Turns.{RefusesBehind}
 use Rattle.run_laws.proofs.Going.{commits_law}
 use Rattle.run_laws.proofs.Readings.{legal_law}
 use Rattle.run_laws.proofs.Tellings.{told_stays}
 use Rattle.txn_runner.specs.Body.{Body, Goes, IsGoing, Stand, count_of, shelf_of}
-use Rattle.txn_runner.specs.Follows.{Follows}
-use Rattle.txn_runner.specs.Opening.{Opens}
-use Rattle.txn_runner.specs.Steps.{Appends, IsEndOf, Leaves, LeavesFault, LeavesWell, MakesPlace, TakesBack, TellsWith, TriesToCommit, WasInNeed}
-use Rattle.txn_runner.proofs.Keeping.{blames_calls, opens_on, step_blames, taken_back}
+use Rattle.txn_runner.specs.Steps.{Appends, HadNeedOf, IsEndOf, Leaves, LeavesFault, LeavesWell, MakesPlace, MarksFull, TakesBack, TellsWith, TriesToCommit, WasInNeed}
+use Rattle.txn_runner.proofs.Full as flags
 use Rattle.txn_runner.proofs.Making as making
 use Rattle.txn_runner.proofs.Needs as needs
-use Rattle.txn_runner.proofs.Opening as opening
 use Rattle.txn_runner.proofs.Steady.{same_history}
 
 -- ---- what is left of a body with an entry more
@@ -64,8 +61,7 @@ module _ (abort : AbortLaw) (follows : FollowsLaw) (group : ℕ) (old made : Bod
   -- ---- it is committed
 
   module _ (m : MakesPlace (cost d.rows) old made (Ok None)) (new : Body) (next : Outcome) (a : Appends d made new next) (entry : RoomValue) (history : List Commit) (low : ℕ) (taken : BucketsValue)
-      (ready : IsReady entry) (g : IsGoing group entry old history) (since : low ≤ old.room.room.sealed) (open_now : IsOpen (origin_of entry.entry) low history taken old.buckets d)
-      (opens : Opens (origin_of entry.entry) old.room.room old.buckets history d.calls d.rows) where
+      (ready : IsReady entry) (g : IsGoing group entry old history) (since : low ≤ old.room.room.sealed) (open_now : IsOpen (origin_of entry.entry) low history taken old.buckets d) where
     abbrev c : Commit
     c = record { entry = entry_of d; epoch = made.room.room.sealed + 1 }
 
@@ -106,10 +102,17 @@ module _ (abort : AbortLaw) (follows : FollowsLaw) (group : ℕ) (old made : Bod
     shelf_now : IsShelf new.room.room new.view
     shelf_now = subst (IsShelf new.room.room) (sym view_same) (subst (λ (r : RoomValue). IsShelf r.room made.view) (sym a.room) (appended_shelf made.room d.rows made.view goes_made.view))
 
+    full_made : new.full ≡ made.full
+    full_made = ap (λ (b : Body). b.full) a.rest
+
+    not_full : made.full ≡ false
+    not_full = flags.not_full (cost d.rows) old made (Ok None) m g.goes.room.whole g.goes.no_region m.makes.makes
+
     goes_new : Goes entry new (history ++ c ∷ [])
     goes_new = record {
       room = on;
-      stuck = λ full first e began stands. (a.becomes.stuck (goes_made.stuck (sym (ap (λ (b : Body). b.full) a.rest) ∙ full) first e began stands)).stuck;
+      no_region = λ full. absurd (true≢false (sym full ∙ full_made ∙ not_full));
+      stuck = λ full. absurd (true≢false (sym full ∙ full_made ∙ not_full));
       view = shelf_now;
     }
 
@@ -139,34 +142,29 @@ module _ (abort : AbortLaw) (follows : FollowsLaw) (group : ℕ) (old made : Bod
         let grew = m.makes.leaves.becomes.sealed in
         a.buckets (origin_of entry.entry) low new.room.room.sealed history taken d c open_made refl refl below (omega (arith, same, grew, since)) (omega (arith, same))
 
-    opens_made : Opens (origin_of entry.entry) made.room.room made.buckets history d.calls d.rows
-    opens_made = opens_on (cost d.rows) entry old made (Ok None) history d.calls d.rows ready g.goes.room m opens
-
-    stand_new : Stand entry new (history ++ c ∷ [])
-    stand_new = record {
-      all = all_new;
-      follows = subst (λ (r : RoomValue). Follows (origin_of entry.entry) r.room new.buckets (history ++ c ∷ [])) (sym a.room)
-          (opening.commits (origin_of entry.entry) made.room made.buckets new.buckets history c (made.room.room.sealed + 1) made.room.room.sealed opens_made a.left refl
-          (subst (λ n. StandAll (origin_of entry.entry) n new.buckets (history ++ c ∷ [])) sealed all_new));
-    }
-
     in_need_new : WasInNeed group entry old history → WasInNeed group entry new (history ++ c ∷ [])
-    in_need_new n = needs.committed group entry history (cost d.rows) old made (Ok None) m g.goes.room n.0 m.makes.makes new c refl a.room (ap (λ (b : Body). b.full) a.rest) refl n.1
+    in_need_new n = needs.committed group entry history (cost d.rows) old made (Ok None) m g.goes.room n.0 m.makes.makes new c refl a.room full_made refl n.1
 
     place : made.room.room.places + 1 ≡ length history + 1
     place = let p = goes_made.room.places in omega (arith, p)
 
+    marks : MarksFull group entry old new history d.calls (outcome.Committed (made.room.room.places + 1) (made.room.room.sealed + 1) (entry_of d))
+    marks = record {
+      flag = flags.flag_committed (cost d.rows) old made (Ok None) m g.goes.room.whole g.goes.no_region m.makes.makes (made.room.room.places + 1) (made.room.room.sealed + 1) (entry_of d) new.full full_made;
+      full_need = λ (e : outcome.Committed _ _ _ ≡ outcome.Refused why.Full). absurd (let x = e in cc);
+    }
+
     pub committed : LeavesWell group entry old new history (c ∷ []) × IsEndOf entry history d new (outcome.Committed (made.room.room.places + 1) (made.room.room.sealed + 1) (entry_of d))
-    committed = (record { leaves = leaves_new; stand = stand_new; in_need = in_need_new; told = told_new }, (place, (let e = sealed in omega (arith, e)), refl))
+        × MarksFull group entry old new history d.calls (outcome.Committed (made.room.room.places + 1) (made.room.room.sealed + 1) (entry_of d))
+    committed = (record { leaves = leaves_new; stand = all_new; in_need = in_need_new; told = told_new }, (place, (let e = sealed in omega (arith, e)), refl), marks)
 
   pub commits_it : MakesPlace (cost d.rows) old made (Ok None) → (new : Body) (next : Outcome) → Appends d made new next → TriesToCommit group old new d (Ok next)
-  commits_it m new next a = subst (λ o. TriesToCommit group old new d (Ok o)) (sym a.is) (λ entry history low taken ready g since open_now opens. committed m new next a entry history low taken ready g since open_now opens)
+  commits_it m new next a = subst (λ o. TriesToCommit group old new d (Ok o)) (sym a.is) (λ entry history low taken ready g since open_now. committed m new next a entry history low taken ready g since open_now)
 
   -- ---- it is taken back
 
   module _ (result : Result (Option Why) RunFault) (m : MakesPlace (cost d.rows) old made result) (new : Body) (back : TakesBack made new) (entry : RoomValue) (history : List Commit) (low : ℕ) (taken : BucketsValue)
-      (ready : IsReady entry) (g : IsGoing group entry old history) (since : low ≤ old.room.room.sealed) (open_now : IsOpen (origin_of entry.entry) low history taken old.buckets d)
-      (opens : Opens (origin_of entry.entry) old.room.room old.buckets history d.calls d.rows) where
+      (ready : IsReady entry) (g : IsGoing group entry old history) (since : low ≤ old.room.room.sealed) (open_now : IsOpen (origin_of entry.entry) low history taken old.buckets d) where
     to_undo : IsToUndo (origin_of entry.entry) low history taken made.buckets
     to_undo = subst (IsToUndo (origin_of entry.entry) low history taken) (sym (ap (λ (b : Body). b.buckets) m.rest)) (abort (origin_of entry.entry) low history taken old.buckets d open_now)
 
@@ -179,12 +177,6 @@ module _ (abort : AbortLaw) (follows : FollowsLaw) (group : ℕ) (old made : Bod
         let grew = m.makes.leaves.becomes.sealed in
         back.buckets (origin_of entry.entry) low new.room.room.sealed history taken to_undo (omega (arith, same, grew, since)) (omega (arith, same))
 
-    stand_back : Stand entry new history
-    stand_back = taken_back entry made new history d.calls d.rows back (opens_on (cost d.rows) entry old made result history d.calls d.rows ready g.goes.room m opens) all_back
-
-    follows_made : Follows (origin_of entry.entry) made.room.room new.buckets history
-    follows_made = subst (λ (r : RoomValue). Follows (origin_of entry.entry) r.room new.buckets history) room_same stand_back.follows
-
     goes_then : Goes entry made history
     goes_then = making.goes group (cost d.rows) old made some result m entry history ready g
 
@@ -193,7 +185,7 @@ module _ (abort : AbortLaw) (follows : FollowsLaw) (group : ℕ) (old made : Bod
 
     leaves_with : (buckets : BucketsValue) → Leaves group entry old (record made { buckets = buckets }) history []
     leaves_with buckets = record {
-      goes = record { room = leaves_made.goes.room; stuck = leaves_made.goes.stuck; view = leaves_made.goes.view };
+      goes = record { room = leaves_made.goes.room; no_region = leaves_made.goes.no_region; stuck = leaves_made.goes.stuck; view = leaves_made.goes.view };
       few = leaves_made.few;
       becomes = leaves_made.becomes;
       ended = leaves_made.ended;
@@ -222,36 +214,52 @@ module _ (abort : AbortLaw) (follows : FollowsLaw) (group : ℕ) (old made : Bod
     reason some_place why.Bucket is first e began stands = absurd is
     reason some_place why.Full is first e began stands = goes_then.stuck is.3 first e began stands
 
-    pub refused : old.room.room.places < greatest → (word : Why) → result ≡ Ok (Some word) → LeavesWell group entry old new history [] × IsEndOf entry history d new (outcome.Refused word)
+    -- the rows are those that the calls push
+    had_need : result ≡ Ok (Some why.Full) → old.full ≡ false → WasInNeed group entry old history → HadNeedOf group entry history d.calls
+    had_need is not n first e began stands rows pushed = subst (λ rows. HadNeedBefore entry.room.region_len group entry.room.sealed history rows) same
+        (needs.had_need group entry history (cost d.rows) old made result m g.goes.room n.0 is not n.1 d.rows refl)
+      where
+        same : d.rows ≡ rows
+        same = let x : ◌≡◌ {A = Result (List Row) Why} (Ok d.rows) (Ok rows) = sym (open_now.answered e first began).is_pushed ∙ pushed in cc
+
+    marks_refused : (word : Why) → result ≡ Ok (Some word) → MakesOr (cost d.rows) (shelf_of old) (shelf_of made) old.full made.full (Ok (Some word)) → MarksFull group entry old new history d.calls (outcome.Refused word)
+    marks_refused word is makes = record {
+      flag = subst (λ full. KeepsFlag old.full full (outcome.Refused word)) (sym full_same) (flags.flag_refused (cost d.rows) old made result m word makes);
+      full_need = λ (e : outcome.Refused word ≡ outcome.Refused why.Full). let same : word ≡ why.Full = (let x = e in cc) in had_need (is ∙ ap (λ w. Ok (Some w)) same);
+    }
+
+    pub refused : old.room.room.places < greatest → (word : Why) → result ≡ Ok (Some word)
+        → LeavesWell group entry old new history [] × IsEndOf entry history d new (outcome.Refused word) × MarksFull group entry old new history d.calls (outcome.Refused word)
     refused some_place word is = (
       record {
         leaves = leaves_back;
-        stand = same_history (Stand entry new) history stand_back;
+        stand = same_history (Stand entry new) history all_back;
         in_need = λ n. same_history (WasInNeed group entry new) history (in_need_back n, ends_back (let p = m.makes.leaves.places in omega (arith, p, some_place)) word makes n);
         told = subst (λ (b : Body). AreTold entry b.room (count_of b) b.ended b.ended) (sym back.rest) (making.told group (cost d.rows) old made some result m entry history ready g (Some word) makes);
       },
       subst (λ (r : RoomValue). OfSound entry (λ first e. RefusesBehind r.room (first ++ all_rows history) d.calls word)) (sym room_same)
           (reason (let p = m.makes.leaves.places in omega (arith, p, some_place)) word makes),
+      marks_refused word is makes,
     )
       where
         makes : MakesOr (cost d.rows) (shelf_of old) (shelf_of made) old.full made.full (Ok (Some word))
         makes = subst (MakesOr (cost d.rows) (shelf_of old) (shelf_of made) old.full made.full) is m.makes.makes
 
-    pub failed : (fault : RunFault) → result ≡ Err fault → LeavesFault group entry old new history d.calls fault
+    pub failed : (fault : RunFault) → result ≡ Err fault → LeavesFault group entry old new history fault
     failed fault is = record {
       leaves = leaves_back;
-      stand = stand_back;
+      stand = all_back;
       in_need = in_need_back;
       told = subst (λ (b : Body). TellsWith entry b fault) (sym back.rest)
           (making.told_fault group (cost d.rows) old made some result m entry history ready g fault makes);
-      blames = blames_calls entry history d.calls fault (step_blames entry (shelf_of old) (shelf_of made) new.buckets history ready goes_then.room follows_made fault makes.0);
+      full = full_same ∙ makes.1;
     }
       where
         makes : MakesOr (cost d.rows) (shelf_of old) (shelf_of made) old.full made.full (Err fault)
         makes = subst (MakesOr (cost d.rows) (shelf_of old) (shelf_of made) old.full made.full) is m.makes.makes
 
   pub refuses_it : old.room.room.places < greatest → (word : Why) → MakesPlace (cost d.rows) old made (Ok (Some word)) → (new : Body) → TakesBack made new → TriesToCommit group old new d (Ok (outcome.Refused word))
-  refuses_it some_place word m new back entry history low taken ready g since open_now opens = refused (Ok (Some word)) m new back entry history low taken ready g since open_now opens some_place word refl
+  refuses_it some_place word m new back entry history low taken ready g since open_now = refused (Ok (Some word)) m new back entry history low taken ready g since open_now some_place word refl
 
   pub fails_it : (fault : RunFault) → MakesPlace (cost d.rows) old made (Err fault) → (new : Body) → TakesBack made new → TriesToCommit group old new d (Err fault)
-  fails_it fault m new back entry history low taken ready g since open_now opens = failed (Err fault) m new back entry history low taken ready g since open_now opens fault refl
+  fails_it fault m new back entry history low taken ready g since open_now = failed (Err fault) m new back entry history low taken ready g since open_now fault refl

@@ -1,5 +1,5 @@
 -- That behind the last seal all is durable, but for want of memory in it or a failure of the disk's own.
-use Rattle.std.proofs.Common.{◌≡◌, ℕ, ◌+◌, ◌≤◌, ◌==◌, Bool, true, false, List, [], ◌∷◌, length, refl, sym, ap, ◌∙◌, subst, true≢false, Option, Some, None, arith}
+use Rattle.std.proofs.Common.{◌≡◌, ◌+◌, ◌≤◌, ◌==◌, Bool, true, false, List, refl, sym, ap, ◌∙◌, subst, true≢false, Option, Some, None}
 use Rattle.std.proofs.lemmas.List.Sums.{length-filter}
 use Rattle.fine_model.specs.declared.Outcome.{Outcome}
 use Rattle.fine_model.specs.declared.RunFault.{RunFault}
@@ -11,10 +11,10 @@ use Rattle.fine_model.proofs.Histories.Epochs.{all_sealed}
 use Rattle.epoch_room.specs.Meaning.{origin_of}
 use Rattle.epoch_room.specs.Value.{RoomValue}
 use Rattle.run_laws.specs.Lanes.{first_fault, sooner, with_last}
-use Rattle.run_laws.specs.Runs.{IsReady, OwnRose}
+use Rattle.run_laws.specs.Runs.{IsReady, OwnRose, SealsLast}
 use Rattle.run_laws.specs.SoFar.{GoesOn}
 use Rattle.run_laws.proofs.Soonest.{soonest_with}
-use Rattle.txn_runner.specs.Left.{SealsLast, is_memory}
+use Rattle.txn_runner.specs.Steps.{is_memory}
 
 -- ---- want of memory
 
@@ -57,12 +57,3 @@ module _ (entry room : RoomValue) (history : List Commit) (ready : IsReady entry
     some_wait = λ is. some (wanting last is);
     memory_told = λ is. ap (λ fault. first_fault (with_last ended fault)) (wanting last is) ∙ soonest_with ended (Some run_fault.Memory) ∙ memory_first (first_fault ended);
   }
-
--- ---- nothing was run
-
-no_history : (e : ℕ) (history : List Commit) → length history ≡ 0 → e ≡ last_epoch e history
-no_history e [] none = refl
-no_history e (c ∷ cs) none = absurd (omega (arith, none))
-
-pub none_durable : (entry : RoomValue) (history : List Commit) → IsReady entry → entry.room.places ≡ length history → entry.room.sealed ≡ last_epoch entry.room.sealed history
-none_durable entry history ready places = no_history entry.room.sealed history (sym places ∙ ready.no_place)

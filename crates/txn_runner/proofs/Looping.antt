@@ -1,9 +1,8 @@
 -- The transactions one after another, and the end.
-use Rattle.std.proofs.Common.{◌≡◌, inl, inr, ℕ, zero, suc, ◌+◌, ◌-◌, ◌<◌, ◌≤◌, Bool, false, List, [], ◌∷◌, ◌++◌, length, refl, sym, ap, true≢false, ◌∙◌, subst, Option, Some, None, arith}
+use Rattle.std.proofs.Common.{◌≡◌, inl, inr, ℕ, zero, suc, ◌+◌, ◌-◌, ◌<◌, ◌≤◌, false, List, [], ◌∷◌, ◌++◌, length, refl, sym, ap, ◌∙◌, subst, Option, Some, None, arith}
 use Rattle.std.specs.Prelude.{Contains, replicate, slice_get, slice_set, take}
 use Rattle.std.specs.List.{AllByRecursion}
-use Rattle.std.proofs.Math.Seq.{take-length}
-use Rattle.std.proofs.lemmas.List.{append-nil, length-take-le}
+use Rattle.std.proofs.lemmas.List.{append-nil}
 use Rattle.fine_model.specs.declared.Options.{Options}
 use Rattle.fine_model.specs.declared.Outcome.{Outcome}
 use Rattle.fine_model.specs.declared.Outcome.TheVariants as outcome
@@ -21,11 +20,11 @@ use Rattle.fine_model.specs.RowBytes.{greatest}
 use Rattle.epoch_room.specs.Meaning.{origin_of}
 use Rattle.epoch_room.specs.Value.{RoomValue}
 use Rattle.epoch_room.proofs.Counting.{sealed_most}
-use Rattle.open_txn.specs.Buckets.{AreNew, BucketsValue, StandAll}
+use Rattle.open_txn.specs.Buckets.{BucketsValue, StandAll}
 use Rattle.run_laws.specs.Lanes.{first_fault, none_ended, with_last}
 use Rattle.run_laws.specs.Law.{nothing_ran}
-use Rattle.run_laws.specs.Runs.{IsDamageAt, IsReady, RunsLanes}
-use Rattle.run_laws.specs.SoFar.{AreNamed, AreSoFar, Finished, IsEnd}
+use Rattle.run_laws.specs.Runs.{IsReady, RunsLanes, RunsScript, SealsLast}
+use Rattle.run_laws.specs.SoFar.{AreSoFar, Finished, IsEnd}
 use Rattle.run_laws.specs.Turns.{commits_of}
 use Rattle.run_laws.proofs.Begin as begin
 use Rattle.run_laws.proofs.Finish.{finished_law}
@@ -33,12 +32,9 @@ use Rattle.run_laws.proofs.Nothing.{nothing_law}
 use Rattle.run_laws.proofs.Stepping as stepping
 use Rattle.run_laws.proofs.Steps.{lane_ends_law, next_law}
 use Rattle.run_laws.proofs.Turns.{in_turn_law}
-use Rattle.txn_runner.specs.Body.{Body, IsBetween, RunsSoFar, serial, stands_on}
-use Rattle.txn_runner.specs.Left.{Leaves, RunsOn, SealsLast, is_memory}
-use Rattle.txn_runner.specs.Steps.{BehindTxns, Comes, IsClosed, RunsTxn}
-use Rattle.txn_runner.proofs.Following as following
-use Rattle.txn_runner.proofs.LastSeal.{none_durable, seals_last}
-use Rattle.txn_runner.proofs.Naming.{never_later}
+use Rattle.txn_runner.specs.Body.{Body, IsBetween, RunsSoFar, serial}
+use Rattle.txn_runner.specs.Steps.{BehindTxns, Comes, IsClosed, RunsTxn, is_memory}
+use Rattle.txn_runner.proofs.LastSeal.{seals_last}
 
 -- outcomes have one history
 first_in : (outcomes : List Outcome) (one other : List Commit) → IsHistoryOf outcomes one → IsHistoryOf outcomes other → (place : ℕ) (c : Commit) → slice_get one place ≡ Some c → slice_get other place ≡ Some c
@@ -69,21 +65,21 @@ few_commits (outcome.NotRun ∷ done) = let h = few_commits done in omega (arith
 module _ (script : List ScriptTxn) (options : Options) (entry : RoomValue) where
   -- ---- the beginning
 
-  pub begins : (buckets : BucketsValue) → IsReady entry → 1 ≤ options.group → StandAll (origin_of entry.entry) entry.room.sealed buckets [] → AreNew buckets
+  pub begins : (buckets : BucketsValue) → IsReady entry → 1 ≤ options.group → StandAll (origin_of entry.entry) entry.room.sealed buckets []
       → RunsSoFar script options 0 entry (record { room = entry; view = None; buckets = buckets; full = false; ended = none_ended }) (replicate (length script) outcome.NotRun)
-  begins buckets ready group stand new = begin.begins stands_on (IsDamageAt entry) script options entry (record { buckets = buckets; room = entry.room }) ready group (stand, following.begins entry buckets ready new)
+  begins buckets ready group stand = begin.begins StandAll script options entry buckets ready group stand
 
-  pub begins_with : (buckets : BucketsValue) → IsReady entry → 1 ≤ options.group → ((log : Origin) (published : ℕ) → StandAll log published buckets []) → AreNew buckets → (ended : List (Option RunFault)) → ended ≡ none_ended → (many : ℕ) → many ≡ length script
+  pub begins_with : (buckets : BucketsValue) → IsReady entry → 1 ≤ options.group → ((log : Origin) (published : ℕ) → StandAll log published buckets []) → (ended : List (Option RunFault)) → ended ≡ none_ended → (many : ℕ) → many ≡ length script
       → (outcomes : List Outcome) → outcomes ≡ replicate many outcome.NotRun → RunsSoFar script options 0 entry (record { room = entry; view = None; buckets = buckets; full = false; ended = ended }) outcomes
-  begins_with buckets ready group stand new ended none many all outcomes are = subst (λ x. RunsSoFar script options 0 entry (record { room = entry; view = None; buckets = buckets; full = false; ended = x }) outcomes) (sym none)
+  begins_with buckets ready group stand ended none many all outcomes are = subst (λ x. RunsSoFar script options 0 entry (record { room = entry; view = None; buckets = buckets; full = false; ended = x }) outcomes) (sym none)
       (subst (RunsSoFar script options 0 entry (record { room = entry; view = None; buckets = buckets; full = false; ended = none_ended })) (sym (are ∙ ap (λ n. replicate n outcome.NotRun) all))
-      (begins buckets ready group (stand (origin_of entry.entry) entry.room.sealed) new))
+      (begins buckets ready group (stand (origin_of entry.entry) entry.room.sealed)))
 
   -- ---- one transaction more
 
   module _ (i : ℕ) (b : Body) (outcomes : List Outcome) (s : RunsSoFar script options i entry b outcomes) where
     pub between : IsBetween options.group entry b (commits_of s.done)
-    between = record { going = record { goes = record { room = s.goes_on; stuck = s.stuck; view = s.view }; few = s.few; told = s.told }; stand = record { all = s.buckets.0; follows = s.buckets.1 } }
+    between = record { going = record { goes = record { room = s.goes_on; no_region = s.no_region; stuck = s.stuck; view = s.view }; few = s.few; told = s.told }; stand = s.buckets }
 
     comes_on : FitsScript script → (txn : ScriptTxn) (next : Outcome) (after : List (Option RunFault)) → slice_get script i ≡ Some txn → Comes s.done b.ended after txn next → AreSoFar script (i + 1) (s.done ++ next ∷ []) after
     comes_on fits txn next after at (inl c) = next_law script i s.done after txn next (subst (AreSoFar script i s.done) (sym c.0) s.so_far) at c.1
@@ -98,25 +94,24 @@ module _ (script : List ScriptTxn) (options : Options) (entry : RoomValue) where
 
     pub turns : FitsScript script → IsReady entry → (txn : ScriptTxn) (next : Outcome) (new : Body) → slice_get script i ≡ Some txn
         → BehindTxns options.group (i + 1) b (λ entry done. RunsTxn options.group entry done txn next b new) → RunsSoFar script options (i + 1) entry new (slice_set outcomes i next)
-    turns fits ready txn next new at runs = stepping.steps stands_on (IsDamageAt entry) script options entry i txn next (serial b outcomes) (serial new (slice_set outcomes i next)) s at (record {
+    turns fits ready txn next new at runs = stepping.steps StandAll script options entry i txn next (serial b outcomes) (serial new (slice_set outcomes i next)) s at (record {
       outcomes = refl;
       so_far = comes_on fits txn next new.ended at r.comes;
       goes_on = r.between.going.goes.room;
       few = r.between.going.few;
       in_need = r.in_need;
+      full_need = r.full_need;
+      flag = r.flag;
+      no_region = r.between.going.goes.no_region;
       told = r.between.going.told;
-      named = r.names (take i script) (sym (long at)) (never_later s.done 0 0 (length s.done + 1) s.so_far.numbered (omega arith)) s.named;
       becomes = r.becomes;
       most = sealed_most new.room r.between.going.goes.room.whole;
       refused = r.refused;
       stuck = λ full. inr (r.between.going.goes.stuck full);
       view = r.between.going.goes.view;
-      buckets = (r.between.stand.all, r.between.stand.follows);
+      buckets = r.between.stand;
     })
       where
-        long : slice_get script i ≡ Some txn → length s.done ≡ length (take i script)
-        long there = s.so_far.count ∙ sym (length-take-le i script (let w = slice_get_within script i txn there in omega (arith, w)))
-
         r : RunsTxn options.group entry s.done txn next b new
         r = runs entry s.done ready between (ap (λ n. n + 1) (sym s.so_far.count))
 
@@ -131,19 +126,18 @@ module _ (script : List ScriptTxn) (options : Options) (entry : RoomValue) where
     not_memory : (o : Option RunFault) → (Contains (with_last b.ended o) (Some run_fault.Memory) → ⊥) → o ≡ Some run_fault.Memory → ⊥
     not_memory o none is = none (subst (λ x. Contains (with_last b.ended x) (Some run_fault.Memory)) (sym is) (there b.ended))
 
-    is_end : IsEnd (IsDamageAt entry) script entry b.room new.room s.done b.ended (with_last b.ended last)
+    is_end : IsEnd entry b.room new.room s.done b.ended (with_last b.ended last)
     is_end = record {
       goes_on = closed.goes_on;
       tells = closed.tells;
-      named = closed.names script (subst (λ txns. AreNamed (IsDamageAt entry) txns b.ended (commits_of s.done)) (take-length script) s.named);
       becomes = closed.becomes;
       most = sealed_most new.room closed.goes_on.whole;
       board = closed.board;
       sealed = λ open_room none. closed.sealed open_room (not_memory last none);
     }
 
-    ended : Finished (IsDamageAt entry) script options entry new.room s.done b.ended (with_last b.ended last)
-    ended = stepping.ends stands_on (IsDamageAt entry) script options entry (serial b outcomes) new.room (with_last b.ended last) s is_end
+    ended : Finished script options entry new.room s.done b.ended (with_last b.ended last)
+    ended = stepping.ends StandAll script options entry (serial b outcomes) new.room (with_last b.ended last) s is_end
 
     all_done : outcomes ≡ s.done
     all_done = s.outcomes_are ∙ ap (λ n. s.done ++ replicate n outcome.NotRun) none ∙ append-nil s.done
@@ -151,10 +145,13 @@ module _ (script : List ScriptTxn) (options : Options) (entry : RoomValue) where
         none : length script - length script ≡ 0
         none = omega arith
 
-    -- the run's history is that of these outcomes, and no other is
-    run : RunsLanes script options entry new.room (record { outcomes = s.done; durable = new.room.room.sealed; fault = first_fault (with_last b.ended last); unsealed = is_memory last })
-    run = finished_law (IsDamageAt entry) script options entry new.room s.done b.ended (with_last b.ended last) (is_memory last) ready ended
+    abbrev told : Ran
+    told = record { outcomes = s.done; durable = new.room.room.sealed; fault = first_fault (with_last b.ended last); unsealed = is_memory last }
 
+    run : RunsScript script options entry new.room told
+    run = finished_law script options entry new.room s.done b.ended (with_last b.ended last) (is_memory last) ready ended
+
+    -- the run's history is that of these outcomes, and no other is
     all_told : all_outcomes script s.done ≡ s.done
     all_told = ap (λ n. s.done ++ replicate n outcome.NotRun) none ∙ append-nil s.done
       where
@@ -164,34 +161,21 @@ module _ (script : List ScriptTxn) (options : Options) (entry : RoomValue) where
     of_done : IsHistoryOf s.done (commits_of s.done)
     of_done = (in_turn_law (take (length script) script) entry.room.sealed s.done s.so_far.each s.so_far.numbered s.so_far.last_ones closed.goes_on.epochs).history_of
 
-    of_run : IsHistoryOf s.done run.run.history
-    of_run = subst (λ os. IsHistoryOf os run.run.history) all_told run.run.outcomes.history_of
+    of_run : IsHistoryOf s.done run.history
+    of_run = subst (λ os. IsHistoryOf os run.history) all_told run.outcomes.history_of
 
-    same_history : commits_of s.done ≡ run.run.history
-    same_history = one_history s.done (commits_of s.done) run.run.history of_done of_run
-
-    runs_on : RunsOn script options entry new.room (record { outcomes = s.done; durable = new.room.room.sealed; fault = first_fault (with_last b.ended last); unsealed = is_memory last })
-    runs_on = record {
+    runs_lanes : RunsLanes script options entry new.room told
+    runs_lanes = record {
       run = run;
-      leaves = λ none. subst (Leaves (origin_of entry.entry) new.room) same_history (new.buckets, (closed.stand.all, closed.stand.follows));
-      seals_last = subst (λ history. SealsLast entry new.room (record { outcomes = s.done; durable = new.room.room.sealed; fault = first_fault (with_last b.ended last); unsealed = is_memory last }) history) same_history
+      seals_last = subst (SealsLast entry new.room told) (one_history s.done (commits_of s.done) run.history of_done of_run)
           (seals_last entry new.room (commits_of s.done) ready closed.goes_on b.ended last closed.sealed closed.some_wait s.done);
     }
 
-    pub finishes : (ran : Ran) → ran ≡ record { outcomes = outcomes; durable = new.room.room.sealed; fault = first_fault (with_last b.ended last); unsealed = is_memory last } → RunsOn script options entry new.room ran
-    finishes ran is = subst (RunsOn script options entry new.room) (sym (is ∙ ap (λ os. record { outcomes = os; durable = new.room.room.sealed; fault = first_fault (with_last b.ended last); unsealed = is_memory last }) all_done)) runs_on
+    pub finishes : (ran : Ran) → ran ≡ record { outcomes = outcomes; durable = new.room.room.sealed; fault = first_fault (with_last b.ended last); unsealed = is_memory last } → RunsLanes script options entry new.room ran
+    finishes ran is =
+        subst (RunsLanes script options entry new.room) (sym (is ∙ ap (λ os. record { outcomes = os; durable = new.room.room.sealed; fault = first_fault (with_last b.ended last); unsealed = is_memory last }) all_done)) runs_lanes
 
   -- ---- no memory to begin
 
-  none_begun : IsReady entry → RunsOn script options entry entry (nothing_ran entry.room.sealed (Some run_fault.Memory))
-  none_begun ready = record {
-    run = run;
-    leaves = λ none. absurd (let e : ◌≡◌ {A = Option RunFault} (Some run_fault.Memory) None = none in cc);
-    seals_last = record { all_durable = λ sealed low. none_durable entry run.run.history ready run.run.adds.has.places; some_wait = λ wanting. absurd (true≢false (sym wanting)); memory_told = λ wanting. refl };
-  }
-    where
-      run : RunsLanes script options entry entry (nothing_ran entry.room.sealed (Some run_fault.Memory))
-      run = (nothing_law script options entry ready).0
-
-  pub not_begun : (ran : Ran) → IsReady entry → ran ≡ nothing_ran entry.room.sealed (Some run_fault.Memory) → RunsOn script options entry entry ran
-  not_begun ran ready is = subst (RunsOn script options entry entry) (sym is) (none_begun ready)
+  pub not_begun : (ran : Ran) → IsReady entry → ran ≡ nothing_ran entry.room.sealed (Some run_fault.Memory) → RunsLanes script options entry entry ran
+  not_begun ran ready is = subst (RunsLanes script options entry entry) (sym is) (nothing_law script options entry ready).0

@@ -1,5 +1,5 @@
 -- What making room leaves of an open transaction.
-use Rattle.std.proofs.Common.{◌≡◌, ◌⊎◌, inl, inr, ⊎_elim, ℕ, ◌≤◌, Bool, true, List, [], sym, ap, ◌∙◌, subst, Option, Some, None, Ok, Err}
+use Rattle.std.proofs.Common.{◌≡◌, ◌⊎◌, inl, inr, ⊎_elim, ℕ, ◌≤◌, true, List, [], sym, ap, ◌∙◌, subst, Option, Some, None, Ok, Err}
 use Rattle.std.specs.Prelude.{Result}
 use Rattle.fine_model.specs.declared.RunFault.{RunFault}
 use Rattle.fine_model.specs.declared.Why.{Why}
@@ -8,30 +8,16 @@ use Rattle.fine_model.specs.Becomes.{IsStuck}
 use Rattle.fine_model.specs.History.{Commit}
 use Rattle.epoch_room.specs.Fitting.{fit_of}
 use Rattle.epoch_room.specs.Value.{RoomValue}
-use Rattle.epoch_room.specs.declared.answers.Fit.{Fit}
-use Rattle.epoch_room.specs.declared.answers.Fit.TheVariants as fit
 use Rattle.room_shelf.specs.Shelves.{ShelfValue, total}
 use Rattle.room_steps.specs.Laws.{TellsNow}
-use Rattle.room_steps.specs.Steps.{ByFit, MakesOr, NoneFailed}
-use Rattle.run_laws.specs.Needs.{IsSealed, Unsealed}
+use Rattle.room_steps.specs.Steps.{MakesOr, NoneFailed}
 use Rattle.run_laws.specs.Runs.{IsReady, OfSound}
 use Rattle.run_laws.specs.SoFar.{AreFewSoFar, AreTold}
 use Rattle.txn_runner.specs.Body.{Body, Goes, IsGoing, count_of, shelf_of}
 use Rattle.txn_runner.specs.Steps.{Leaves, MakesPlace, TellsWith}
+use Rattle.txn_runner.proofs.Full.{has_none, sealed_or}
 use Rattle.txn_runner.proofs.Steady.{few_by, same_history}
 use Rattle.room_steps.proofs.Telling.{told_still, told_with}
-
--- what waited was sealed, or it still waits
-unsealed : (old new : ShelfValue) → new ≡ old → Unsealed old.room.room new.room.room
-unsealed old new same = record { sealed = ap (λ (s : ShelfValue). s.room.room.sealed) same; waiting = ap (λ (s : ShelfValue). s.room.room.waiting) same; used = ap (λ (s : ShelfValue). s.room.room.used) same }
-
-pub sealed_or : (full : Bool) (old new : ShelfValue) (result : Result (Option Why) RunFault) (f : Fit) → ByFit full old new result f → Unsealed old.room.room new.room.room ⊎ IsSealed old.room.room new.room.room
-sealed_or full old new result fit.Fits by = inl (unsealed old new by.0)
-sealed_or full old new result (fit.Shut epoch) by = inl (unsealed old new by.0)
-sealed_or full old new result (fit.Number epoch place) by = inl (unsealed old new by.0)
-sealed_or full old new result (fit.TooLarge need room) by = inl (unsealed old new by.0)
-sealed_or full old new result (fit.Full free live retired) by = inl by.0
-sealed_or full old new result (fit.EpochFull need room) by = by.0
 
 module _ (group cost : ℕ) (old new : Body) (some : 1 ≤ group) (result : Result (Option Why) RunFault) (m : MakesPlace cost old new result) (entry : RoomValue) (history : List Commit) (ready : IsReady entry) (g : IsGoing group entry old history) where
   ended_same : new.ended ≡ old.ended
@@ -49,6 +35,7 @@ module _ (group cost : ℕ) (old new : Body) (some : 1 ≤ group) (result : Resu
   pub goes : Goes entry new history
   goes = record {
     room = m.makes.leaves.goes_on entry history g.goes.room;
+    no_region = has_none cost old new result m g.goes.room.whole g.goes.no_region;
     stuck = λ full first e began stands. ⊎_elim (λ was. (m.makes.leaves.becomes.stuck (g.goes.stuck was first e began stands)).stuck) (λ now. now first e began stands) (flag result m.makes.makes full);
     view = m.makes.leaves.shelf;
   }

@@ -1,5 +1,5 @@
 -- A transaction with the seal of its group, and how its lane ends.
-use Rattle.std.proofs.Common.{◌≡◌, ◌⊎◌, inl, inr, ℕ, ◌+◌, ◌-◌, ◌<◌, ◌≤◌, true, is_some, List, [], ◌∷◌, ◌++◌, length, refl, sym, ap, ◌∙◌, subst, Option, Some, None, Ok, Err, arith}
+use Rattle.std.proofs.Common.{◌≡◌, ◌⊎◌, inl, inr, ℕ, ◌+◌, ◌-◌, ◌<◌, ◌≤◌, Bool, true, false, is_some, List, [], ◌∷◌, ◌++◌, length, refl, sym, ap, ◌∙◌, subst, Option, Some, None, Ok, Err, arith}
 use Rattle.std.specs.Prelude.{slice_set}
 use Rattle.std.specs.List.{AllByRecursion}
 use Rattle.std.proofs.lemmas.List.{length-set}
@@ -8,6 +8,7 @@ use Rattle.fine_model.specs.declared.Outcome.TheVariants as outcome
 use Rattle.fine_model.specs.declared.RunFault.{RunFault}
 use Rattle.fine_model.specs.declared.ScriptTxn.{ScriptTxn}
 use Rattle.fine_model.specs.declared.Why.{Why}
+use Rattle.fine_model.specs.declared.Why.TheVariants as why
 use Rattle.fine_model.specs.Becomes.{Becomes}
 use Rattle.fine_model.specs.History.{Commit, all_rows}
 use Rattle.fine_model.specs.RowBytes.{greatest}
@@ -18,15 +19,15 @@ use Rattle.room_steps.specs.Laws.{TellsNow}
 use Rattle.run_laws.specs.Lanes.{EndsLane, IsLane, fault_of, most_lanes}
 use Rattle.run_laws.specs.Needs.{IsInNeed, IsSealed, RunsInNeed, Unsealed}
 use Rattle.run_laws.specs.Runs.{AreFewOfLanes, IsReady, OfSound}
-use Rattle.run_laws.specs.SoFar.{AreFewSoFar, AreTold, ComesNext}
+use Rattle.run_laws.specs.SoFar.{AreFewSoFar, AreTold, ComesNext, KeepsFlag}
 use Rattle.run_laws.specs.Told.{TellsMore}
 use Rattle.run_laws.specs.Turns.{RefusesBehind, commits_of}
 use Rattle.run_laws.proofs.Caused.{stays_refused}
 use Rattle.run_laws.proofs.Going.{few_end, few_less, few_more, few_wait}
 use Rattle.run_laws.proofs.Tellings.{more_by_lane}
 use Rattle.txn_runner.specs.Body.{Body, Goes, IsBetween, Stand, count_of}
-use Rattle.txn_runner.specs.Steps.{BehindTxns, EndsBy, EndsGroup, IsTried, LeavesFault, LeavesWell, RunsTxn, SealsAll, SealsOn, Tries, WasInNeed}
-use Rattle.txn_runner.proofs.Naming.{names_bad, names_calls, names_on}
+use Rattle.txn_runner.specs.Steps.{BehindTxns, EndsBy, EndsGroup, HadNeedOf, IsTried, LeavesFault, LeavesWell, MarksFull, RunsTxn, SealsAll, SealsOn, Tries, WasInNeed}
+use Rattle.txn_runner.proofs.Full.{flag_same}
 use Rattle.txn_runner.proofs.Needs as needs
 use Rattle.txn_runner.proofs.Steady.{few_none, same_history}
 
@@ -40,12 +41,13 @@ tells_now ended after lane fault long is_lane none ends set = record {
   all = λ other there. there;
 }
 
+-- a transaction that was not run leaves the flag
+flag_not_run : (before now : Bool) → now ≡ before → KeepsFlag before now outcome.NotRun
+flag_not_run before now same = flag_same before now outcome.NotRun same (λ (e : outcome.NotRun ≡ outcome.Refused why.Full). let x = e in cc) refl
+
 -- the body as a lane has ended
 ended_with : (b : Body) (ended : List (Option RunFault)) (entry : RoomValue) (history : List Commit) → Goes entry b history → Goes entry (record b { ended = ended }) history
-ended_with b ended entry history g = record { room = g.room; stuck = g.stuck; view = g.view }
-
-stand_with : (b : Body) (ended : List (Option RunFault)) (entry : RoomValue) (history : List Commit) → Stand entry b history → Stand entry (record b { ended = ended }) history
-stand_with b ended entry history s = record { all = s.all; follows = s.follows }
+ended_with b ended entry history g = record { room = g.room; no_region = g.no_region; stuck = g.stuck; view = g.view }
 
 module _ (group turn : ℕ) (some : 1 ≤ group) (txn : ScriptTxn) (is_lane : IsLane txn.lane) (old : Body) where
   -- ---- its lane had ended
@@ -55,8 +57,9 @@ module _ (group turn : ℕ) (some : 1 ≤ group) (txn : ScriptTxn) (is_lane : Is
     between = same_history (IsBetween group entry old) (commits_of done) b;
     becomes = becomes_itself old.room.room;
     comes = inl (refl, record { is = tt; number = tt; runs = inl (refl, is_ended); replied = tt });
-    names = names_on entry done txn outcome.NotRun tt old.ended old.ended refl;
     in_need = λ n. same_history (RunsInNeed group txn.lane entry old.room old.full old.ended) (commits_of done) n;
+    flag = flag_not_run old.full old.full refl;
+    full_need = λ (e : outcome.NotRun ≡ outcome.Refused why.Full). absurd (let x = e in cc);
     refused = λ word (e : outcome.NotRun ≡ outcome.Refused word). absurd (let x = e in cc);
   }
 
@@ -75,6 +78,16 @@ module _ (group turn : ℕ) (some : 1 ≤ group) (txn : ScriptTxn) (is_lane : Is
 
       tried : IsTried entry done txn next mid
       tried = (tries entry done ready b at).1
+
+      marks : MarksFull group entry old mid history txn.calls next
+      marks = (tries entry done ready b at).2
+
+      -- the flag stays as the group is sealed
+      flag_by : (now : Bool) → now ≡ mid.full → KeepsFlag old.full now next
+      flag_by now same = subst (λ full. KeepsFlag old.full full next) (sym same) marks.flag
+
+      full_need : next ≡ outcome.Refused why.Full → old.full ≡ false → RunsInNeed group txn.lane entry old.room old.full old.ended history → HadNeedOf group entry history txn.calls
+      full_need is not n = marks.full_need is not (n.so_far, n.ends none)
 
       none_mid : fault_of mid.ended txn.lane ≡ None
       none_mid = ap (λ ended. fault_of ended txn.lane) well.leaves.ended ∙ none
@@ -108,8 +121,9 @@ module _ (group turn : ℕ) (some : 1 ≤ group) (txn : ScriptTxn) (is_lane : Is
         };
         becomes = well.leaves.becomes;
         comes = inl (well.leaves.ended, comes_mid);
-        names = names_on entry done txn next tried.number old.ended mid.ended well.leaves.ended;
         in_need = λ n. let w = in_need_mid n in record { so_far = w.0; ends = λ goes. w.1 };
+        flag = marks.flag;
+        full_need = full_need;
         refused = tried.refused;
       }
 
@@ -124,11 +138,12 @@ module _ (group turn : ℕ) (some : 1 ≤ group) (txn : ScriptTxn) (is_lane : Is
             between = record { going = record { goes = s.0.goes; few = few_none group entry new.room new.ended (history ++ more) some s.0.goes.room s.2.waiting most; told = s.1 }; stand = s.0.stand };
             becomes = becomes_on old.room.room mid.room.room new.room.room well.leaves.becomes s.0.becomes;
             comes = inl (s.0.ended ∙ well.leaves.ended, subst (λ ended. ComesNext done ended txn next) (sym s.0.ended) comes_mid);
-            names = names_on entry done txn next tried.number old.ended new.ended (s.0.ended ∙ well.leaves.ended);
             in_need = λ n. let w = in_need_mid n in record {
               so_far = needs.sealed_or_not group entry (history ++ more) mid new s.0 w.0 s.2.some (inr s.2);
               ends = λ goes. needs.group_ends group entry (history ++ more) mid new s.0 w.0 s.2.some well.leaves.goes.room full s.2;
             };
+            flag = flag_by new.full s.0.full;
+            full_need = full_need;
             refused = refused_new s.0.becomes (sealed_most new.room s.0.goes.room.whole);
           }
 
@@ -166,7 +181,7 @@ module _ (group turn : ℕ) (some : 1 ≤ group) (txn : ScriptTxn) (is_lane : Is
         between_last : IsBetween group entry (record last { ended = new.ended }) (history ++ more)
         between_last = record {
           going = record { goes = ended_with last new.ended entry (history ++ more) on.goes; few = few_last sealed_or_not; told = told_last };
-          stand = stand_with last new.ended entry (history ++ more) on.stand;
+          stand = on.stand;
         }
 
         room_same : last.room ≡ new.room
@@ -180,14 +195,13 @@ module _ (group turn : ℕ) (some : 1 ≤ group) (txn : ScriptTxn) (is_lane : Is
           between = subst (λ x. IsBetween group entry x (history ++ more)) (sym e.rest) between_last;
           becomes = becomes_on old.room.room mid.room.room new.room.room well.leaves.becomes becomes_new;
           comes = inr (fault, subst (λ ended. EndsLane ended new.ended txn.lane fault) well.leaves.ended ends, inl comes_old);
-          names = names_bad entry done txn next tried.number old.ended new.ended fault
-              (subst (λ ended. TellsMore ended new.ended fault) (on.ended ∙ well.leaves.ended) (tells_now last.ended new.ended txn.lane fault long is_lane none_last e.ends e.set).adds)
-              (e.seals entry (history ++ more) ready well.leaves.goes well.told well.stand).3;
           in_need = λ n. record {
             so_far = subst (λ (x : Body). IsInNeed group entry x.room x.full (history ++ more)) (sym e.rest)
                 (needs.sealed_or_not group entry (history ++ more) mid last on (in_need_mid n).0 (omega (arith, some, full)) sealed_or_not);
             ends = λ goes. absurd (let x : ◌≡◌ {A = Option RunFault} (Some fault) None = sym e.ends.ended ∙ goes in cc);
           };
+          flag = flag_by new.full (ap (λ (x : Body). x.full) e.rest ∙ on.full);
+          full_need = full_need;
           refused = refused_new becomes_new (subst (λ (r : RoomValue). r.room.sealed ≤ greatest) room_same (sealed_most last.room on.goes.room.whole));
         }
 
@@ -210,20 +224,20 @@ module _ (group turn : ℕ) (some : 1 ≤ group) (txn : ScriptTxn) (is_lane : Is
           few = same_history (AreFewSoFar group mid.room.room.sealed new.ended) (commits_of done) (few_less group mid.room.room.sealed mid.ended new.ended (commits_of done) txn.lane fault left.leaves.few ends);
           told = left.told new.ended new.ended (tells_now mid.ended new.ended txn.lane fault (ap length left.leaves.ended ∙ b.going.told.lanes) is_lane none_mid ends set);
         };
-        stand = stand_with mid new.ended entry (commits_of done ++ []) (same_history (Stand entry mid) (commits_of done) left.stand);
+        stand = same_history (Stand entry mid) (commits_of done) left.stand;
       });
       becomes = subst (λ (r : RoomValue). Becomes old.room.room r.room) (sym (ap (λ (x : Body). x.room) rest)) left.leaves.becomes;
       comes = inr (fault, subst (λ x. EndsLane x new.ended txn.lane fault) left.leaves.ended ends, inr (record { is = tt; number = tt; runs = inl (refl, ap is_some ends.ended); replied = tt }));
-      names = names_calls entry done txn old.ended new.ended fault
-          (subst (λ x. TellsMore x new.ended fault) left.leaves.ended (tells_now mid.ended new.ended txn.lane fault (ap length left.leaves.ended ∙ b.going.told.lanes) is_lane none_mid ends set).adds) left.blames;
       in_need = λ n. same_history (RunsInNeed group txn.lane entry new.room new.full new.ended) (commits_of done) (record {
         so_far = subst (λ (x : Body). IsInNeed group entry x.room x.full (commits_of done)) (sym rest) (left.in_need (n.so_far, n.ends none));
         ends = λ goes. absurd (let x : ◌≡◌ {A = Option RunFault} (Some fault) None = sym ends.ended ∙ goes in cc);
       });
+      flag = flag_not_run old.full new.full (ap (λ (x : Body). x.full) rest ∙ left.full);
+      full_need = λ (e : outcome.NotRun ≡ outcome.Refused why.Full). absurd (let x = e in cc);
       refused = λ word (e : outcome.NotRun ≡ outcome.Refused word). absurd (let x = e in cc);
     }
       where
-        left : LeavesFault group entry old mid (commits_of done) txn.calls fault
+        left : LeavesFault group entry old mid (commits_of done) fault
         left = tries entry done ready b at
 
         none_mid : fault_of mid.ended txn.lane ≡ None

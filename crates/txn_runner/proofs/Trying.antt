@@ -1,7 +1,8 @@
 -- What a transaction leaves, but for the seal behind it.
-use Rattle.std.proofs.Common.{◌≡◌, ℕ, ◌+◌, ◌≤◌, List, [], ◌∷◌, ◌++◌, length, refl, sym, ap, ◌∙◌, subst, Some, None, Ok, Err, arith}
+use Rattle.std.proofs.Common.{◌≡◌, ◌≢◌, ℕ, ◌+◌, ◌≤◌, List, [], ◌∷◌, ◌++◌, length, refl, sym, ap, ◌∙◌, subst, Some, None, Ok, Err, arith}
 use Rattle.std.specs.Prelude.{Result}
 use Rattle.std.specs.List.{AllZip}
+use Rattle.fine_model.specs.declared.Call.{Call}
 use Rattle.fine_model.specs.declared.Ending.{Ending}
 use Rattle.fine_model.specs.declared.Ending.TheVariants as ending
 use Rattle.fine_model.specs.declared.Entry.{Entry}
@@ -10,23 +11,23 @@ use Rattle.fine_model.specs.declared.Outcome.TheVariants as outcome
 use Rattle.fine_model.specs.declared.RunFault.{RunFault}
 use Rattle.fine_model.specs.declared.ScriptTxn.{ScriptTxn}
 use Rattle.fine_model.specs.declared.Why.{Why}
+use Rattle.fine_model.specs.declared.Why.TheVariants as why
 use Rattle.fine_model.specs.declared.law.RoomState.{RoomState}
 use Rattle.fine_model.specs.History.{Commit, all_rows}
+use Rattle.fine_model.specs.Store.{IsReplyTo}
 use Rattle.fine_model.proofs.Histories.Goings.{becomes_on}
 use Rattle.txn_draft.specs.Drafts.{DraftValue}
 use Rattle.epoch_room.specs.Meaning.{origin_of}
 use Rattle.epoch_room.specs.Value.{RoomValue}
 use Rattle.open_txn.specs.Buckets.{BucketsValue}
 use Rattle.open_txn.specs.Opened.{AbortLaw, IsOpen, IsToUndo}
-use Rattle.run_laws.specs.Runs.{IsReady, IsReplyTo, OfSound}
-use Rattle.run_laws.specs.SoFar.{AreTold}
-use Rattle.run_laws.specs.Turns.{RefusesBehind, commits_of}
+use Rattle.run_laws.specs.Runs.{IsReady, OfSound}
+use Rattle.run_laws.specs.SoFar.{AreTold, KeepsFlag}
+use Rattle.run_laws.specs.Turns.{RefusesBehind, commit_of, commits_of}
 use Rattle.txn_runner.specs.Body.{Body, Goes, IsBetween, IsGoing, Stand, count_of}
-use Rattle.txn_runner.specs.Named.{BlamesCalls}
-use Rattle.txn_runner.specs.Opening.{Opens}
-use Rattle.txn_runner.specs.Steps.{Answers, IsEndOf, IsTried, Leaves, LeavesWell, Reads, TakesBack, Tries, TriesToCommit, WasInNeed, refused_as}
+use Rattle.txn_runner.specs.Steps.{Answers, HadNeedOf, IsEndOf, IsTried, Leaves, LeavesWell, MarksFull, Reads, TakesBack, Tries, TriesToCommit, WasInNeed, refused_as}
 use Rattle.txn_runner.proofs.Answering.{few_later, goes_later, told_later}
-use Rattle.txn_runner.proofs.Keeping.{taken_back}
+use Rattle.txn_runner.proofs.Full.{flag_same}
 use Rattle.txn_runner.proofs.Needs as needs
 use Rattle.txn_runner.proofs.Steady.{same_history}
 
@@ -43,7 +44,7 @@ reads_leave group entry old new history b r = record {
 
 pub fails_reading : (group : ℕ) (old new : Body) (d : DraftValue) (txn : ScriptTxn) (turn : ℕ) (fault : RunFault) → Answers group old new d txn.calls (Err fault) → Tries group old new txn turn (Err fault)
 fails_reading group old new d txn turn fault a entry done ready b at =
-    let left = a.1 entry (commits_of done) ready b in record { leaves = reads_leave group entry old new (commits_of done) b a.0; stand = left.0; in_need = λ n. (needs.read group entry (commits_of done) old new a.0 n).0; told = left.1; blames = left.2 }
+    let left = a.1 entry (commits_of done) ready b in record { leaves = reads_leave group entry old new (commits_of done) b a.0; stand = left.0; in_need = λ n. (needs.read group entry (commits_of done) old new a.0 n).0; told = left.1; full = a.0.full }
 
 aborted_is : (entry : RoomValue) (done : List Outcome) (txn : ScriptTxn) (new : Body) → txn.ending ≡ ending.Abort → IsTried entry done txn outcome.Aborted new
 aborted_is entry done txn new is = record {
@@ -72,9 +73,21 @@ none_committed : (end : Ending) (word : Why) → commits_of (refused_as end word
 none_committed ending.Commit word = refl
 none_committed ending.Abort word = refl
 
+none_there : (end : Ending) (word : Why) → commit_of (refused_as end word) ≡ None
+none_there ending.Commit word = refl
+none_there ending.Abort word = refl
+
+not_full : (end : Ending) (word : Why) → word ≢ why.Full → refused_as end word ≢ outcome.Refused why.Full
+not_full ending.Commit word not = λ (e : outcome.Refused word ≡ outcome.Refused why.Full). not (let x = e in cc)
+not_full ending.Abort word not = λ (e : outcome.Aborted ≡ outcome.Refused why.Full). let x = e in cc
+
+-- the flag is as it was
+marks_same : (group : ℕ) (entry : RoomValue) (old new : Body) (history : List Commit) (calls : List Call) (next : Outcome) → new.full ≡ old.full → next ≢ outcome.Refused why.Full → commit_of next ≡ None → MarksFull group entry old new history calls next
+marks_same group entry old new history calls next same not none = record { flag = flag_same old.full new.full next same not none; full_need = λ is. absurd (not is) }
+
 pub refuses_reading : (group : ℕ) (old new : Body) (d : DraftValue) (txn : ScriptTxn) (turn : ℕ) (word : Why) → Answers group old new d txn.calls (Ok (Some word)) → Tries group old new txn turn (Ok (refused_as txn.ending word))
 refuses_reading group old new d txn turn word a entry done ready b at =
-    let left = a.2 entry (commits_of done) ready b in (
+    let left = a.3 entry (commits_of done) ready b in (
       subst (LeavesWell group entry old new (commits_of done)) (sym (none_committed txn.ending word)) (record {
         leaves = reads_leave group entry old new (commits_of done) b a.0;
         stand = same_history (Stand entry new) (commits_of done) left.0;
@@ -82,6 +95,7 @@ refuses_reading group old new d txn turn word a entry done ready b at =
         told = told_later entry old new (commits_of done) b.going.goes b.going.told a.0 a.1;
       }),
       tried_as entry done txn word new txn.ending refl left.1,
+      marks_same group entry old new (commits_of done) txn.calls (refused_as txn.ending word) a.0.full (not_full txn.ending word a.2) (none_there txn.ending word),
     )
 
 -- ---- all were answered
@@ -93,20 +107,17 @@ module _ (abort : AbortLaw) (group : ℕ) (old mid : Body) (d : DraftValue) (txn
   sealed : mid.room.room.sealed ≡ old.room.room.sealed
   sealed = ap (λ (r : RoomState). r.sealed) a.0.later.room
 
-  -- it is open by the bytes at entry too, with the draft's calls
-  opens : (entry : RoomValue) (history : List Commit) → IsReady entry → IsBetween group entry old history → Opens (origin_of entry.entry) mid.room.room mid.buckets history d.calls d.rows
-  opens entry history ready b = subst (λ calls. Opens (origin_of entry.entry) mid.room.room mid.buckets history calls d.rows) (sym a.2.same) (a.3 entry history ready b).1
-
   -- the script aborts it
   module _ (back : TakesBack mid new) (is : txn.ending ≡ ending.Abort) where
     room_same : new.room ≡ mid.room
     room_same = ap (λ (b : Body). b.room) back.rest
 
-    aborted : (entry : RoomValue) (done : List Outcome) → IsReady entry → IsBetween group entry old (commits_of done) → LeavesWell group entry old new (commits_of done) [] × IsTried entry done txn outcome.Aborted new
+    aborted : (entry : RoomValue) (done : List Outcome) → IsReady entry → IsBetween group entry old (commits_of done)
+        → LeavesWell group entry old new (commits_of done) [] × IsTried entry done txn outcome.Aborted new × MarksFull group entry old new (commits_of done) txn.calls outcome.Aborted
     aborted entry done ready b = (
       record {
         leaves = subst (λ x. Leaves group entry old x (commits_of done) []) (sym back.rest) (record {
-          goes = record { room = left.goes.room; stuck = left.goes.stuck; view = left.goes.view };
+          goes = record { room = left.goes.room; no_region = left.goes.no_region; stuck = left.goes.stuck; view = left.goes.view };
           few = left.few;
           becomes = left.becomes;
           ended = left.ended;
@@ -117,13 +128,14 @@ module _ (abort : AbortLaw) (group : ℕ) (old mid : Body) (d : DraftValue) (txn
         told = subst (λ (x : Body). AreTold entry x.room (count_of x) x.ended x.ended) (sym back.rest) (going entry (commits_of done) b).told;
       },
       aborted_is entry done txn new is,
+      marks_same group entry old new (commits_of done) txn.calls outcome.Aborted (ap (λ (b : Body). b.full) back.rest ∙ a.0.full) (λ (e : outcome.Aborted ≡ outcome.Refused why.Full). let x = e in cc) refl,
     )
       where
         left : Leaves group entry old mid (commits_of done) []
         left = reads_leave group entry old mid (commits_of done) b a.0
 
         open_now : (taken : BucketsValue) × IsOpen (origin_of entry.entry) old.room.room.sealed (commits_of done) taken mid.buckets d
-        open_now = (a.3 entry (commits_of done) ready b).0
+        open_now = a.3 entry (commits_of done) ready b
 
         to_undo : IsToUndo (origin_of entry.entry) old.room.room.sealed (commits_of done) open_now.0 mid.buckets
         to_undo = abort (origin_of entry.entry) old.room.room.sealed (commits_of done) open_now.0 mid.buckets d open_now.1
@@ -132,8 +144,7 @@ module _ (abort : AbortLaw) (group : ℕ) (old mid : Body) (d : DraftValue) (txn
         stand =
             let same = ap (λ (r : RoomValue). r.room.sealed) room_same in
             let mids = sealed in
-            taken_back entry mid new (commits_of done) txn.calls d.rows back (a.3 entry (commits_of done) ready b).1
-            (back.buckets (origin_of entry.entry) old.room.room.sealed new.room.room.sealed (commits_of done) open_now.0 to_undo (omega (arith, same, mids)) (omega (arith, same)))
+            back.buckets (origin_of entry.entry) old.room.room.sealed new.room.room.sealed (commits_of done) open_now.0 to_undo (omega (arith, same, mids)) (omega (arith, same))
 
     pub aborts : Tries group old new txn turn (Ok outcome.Aborted)
     aborts entry done ready b at = aborted entry done ready b
@@ -158,14 +169,21 @@ module _ (abort : AbortLaw) (group : ℕ) (old mid : Body) (d : DraftValue) (txn
     tried entry done outcome.Aborted at end = absurd end
     tried entry done outcome.NotRun at end = absurd end
 
+    -- the flag was as it was behind the calls
+    marks : (entry : RoomValue) (history : List Commit) (next : Outcome) → MarksFull group entry mid new history d.calls next → MarksFull group entry old new history txn.calls next
+    marks entry history next m = record {
+      flag = subst (λ full. KeepsFlag full new.full next) a.0.full m.flag;
+      full_need = λ is not n. subst (HadNeedOf group entry history) a.2.same (m.full_need is (a.0.full ∙ not) (needs.read group entry history old mid a.0 n));
+    }
+
     pub commits : (result : Result Outcome RunFault) → TriesToCommit group mid new d result → Tries group old new txn turn result
     commits (Ok next) t = λ entry done ready b at.
         let low : old.room.room.sealed ≤ mid.room.room.sealed = (let s = sealed in omega (arith, s)) in
-        let open_now = (a.3 entry (commits_of done) ready b).0 in
-        let ends = t entry (commits_of done) old.room.room.sealed open_now.0 ready (going entry (commits_of done) b) low open_now.1 (opens entry (commits_of done) ready b) in
-        (record { leaves = later entry (commits_of done) (commits_of (next ∷ [])) ends.0.leaves; stand = ends.0.stand; in_need = λ n. ends.0.in_need (needs.read group entry (commits_of done) old mid a.0 n); told = ends.0.told }, tried entry done next at ends.1)
+        let open_now = a.3 entry (commits_of done) ready b in
+        let ends = t entry (commits_of done) old.room.room.sealed open_now.0 ready (going entry (commits_of done) b) low open_now.1 in
+        (record { leaves = later entry (commits_of done) (commits_of (next ∷ [])) ends.0.leaves; stand = ends.0.stand; in_need = λ n. ends.0.in_need (needs.read group entry (commits_of done) old mid a.0 n); told = ends.0.told }, tried entry done next at ends.1, marks entry (commits_of done) next ends.2)
     commits (Err fault) t = λ entry done ready b at.
         let low : old.room.room.sealed ≤ mid.room.room.sealed = (let s = sealed in omega (arith, s)) in
-        let open_now = (a.3 entry (commits_of done) ready b).0 in
-        let ends = t entry (commits_of done) old.room.room.sealed open_now.0 ready (going entry (commits_of done) b) low open_now.1 (opens entry (commits_of done) ready b) in
-        record { leaves = later entry (commits_of done) [] ends.leaves; stand = ends.stand; in_need = λ n. ends.in_need (needs.read group entry (commits_of done) old mid a.0 n); told = ends.told; blames = subst (λ calls. BlamesCalls entry (commits_of done) calls fault) a.2.same ends.blames }
+        let open_now = a.3 entry (commits_of done) ready b in
+        let ends = t entry (commits_of done) old.room.room.sealed open_now.0 ready (going entry (commits_of done) b) low open_now.1 in
+        record { leaves = later entry (commits_of done) [] ends.leaves; stand = ends.stand; in_need = λ n. ends.in_need (needs.read group entry (commits_of done) old mid a.0 n); told = ends.told; full = ends.full ∙ a.0.full }

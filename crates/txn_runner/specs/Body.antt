@@ -4,7 +4,6 @@ use Rattle.fine_model.specs.declared.Options.{Options}
 use Rattle.fine_model.specs.declared.Outcome.{Outcome}
 use Rattle.fine_model.specs.declared.RunFault.{RunFault}
 use Rattle.fine_model.specs.declared.ScriptTxn.{ScriptTxn}
-use Rattle.fine_model.specs.declared.law.Origin.{Origin}
 use Rattle.fine_model.specs.declared.law.RoomState.{RoomState}
 use Rattle.fine_model.specs.Becomes.{IsStuck}
 use Rattle.fine_model.specs.History.{Commit}
@@ -13,9 +12,9 @@ use Rattle.epoch_room.specs.Meaning.{origin_of}
 use Rattle.epoch_room.specs.Value.{RoomValue}
 use Rattle.room_shelf.specs.Shelves.{IsShelf, ShelfValue, shelf, total}
 use Rattle.open_txn.specs.Buckets.{BucketsValue, StandAll}
-use Rattle.run_laws.specs.Runs.{IsDamageAt, OfSound}
+use Rattle.run_laws.specs.Needs.{HasNoRegion}
+use Rattle.run_laws.specs.Runs.{OfSound}
 use Rattle.run_laws.specs.SoFar.{AreFewSoFar, AreTold, GoesOn, Serial, SoFar}
-use Rattle.txn_runner.specs.Follows.{Follows}
 
 -- the room, the view that is out for loading, the flag that the log is stuck, and how each lane ended
 pub record RunnerValue : Type 0 where
@@ -43,22 +42,13 @@ shelf_of b = shelf b.room b.view
 abbrev pub count_of : Body → ℕ
 count_of b = total (shelf_of b)
 
--- the buckets, with the state of the room that they stand beside
-pub record Kept : Type 0 where
-  pub buckets : BucketsValue
-  pub room : RoomState
-
--- they stand for a history on a log, while an epoch is published, and go on by it from the bytes at entry
-abbrev pub stands_on : Origin → ℕ → Kept → List Commit → Type 0
-stands_on log published k history = StandAll log published k.buckets history × Follows log k.room k.buckets history
-
 -- with the outcomes
-abbrev pub serial : Body → List Outcome → Serial Kept
-serial b outcomes = record { room = b.room; view = b.view; buckets = record { buckets = b.buckets; room = b.room.room }; full = b.full; ended = b.ended; outcomes = outcomes }
+abbrev pub serial : Body → List Outcome → Serial BucketsValue
+serial b outcomes = record { room = b.room; view = b.view; buckets = b.buckets; full = b.full; ended = b.ended; outcomes = outcomes }
 
--- what holds after some transactions; what is named is damage of the bytes at entry
+-- what holds after some transactions
 abbrev pub RunsSoFar : List ScriptTxn → Options → ℕ → RoomValue → Body → List Outcome → Type 0
-RunsSoFar script options i entry b outcomes = SoFar stands_on (IsDamageAt entry) script options i entry (serial b outcomes)
+RunsSoFar script options i entry b outcomes = SoFar StandAll script options i entry (serial b outcomes)
 
 -- nothing is out but the view, and no merge is
 abbrev pub IsHeld : RoomState → Option ViewValue → Type 0
@@ -67,13 +57,13 @@ IsHeld room view = IsShelf room view × (room.job ≡ None)
 -- the room goes on with a history, the flag is true, and nothing is out but the view
 pub record Goes (entry : RoomValue) (b : Body) (history : List Commit) : Type 0 where
   pub room : GoesOn entry b.room history
+  pub no_region : b.full ≡ true → HasNoRegion b.room.room
   pub stuck : b.full ≡ true → OfSound entry (λ first e. IsStuck b.room.room)
   pub view : IsShelf b.room.room b.view
 
--- the buckets stand for it, up to what is sealed, and the body goes on by it from the bytes at entry
-pub record Stand (entry : RoomValue) (b : Body) (history : List Commit) : Type 0 where
-  pub all : StandAll (origin_of entry.entry) b.room.room.sealed b.buckets history
-  pub follows : Follows (origin_of entry.entry) b.room.room b.buckets history
+-- the buckets stand for it, up to what is sealed
+abbrev pub Stand : RoomValue → Body → List Commit → Type 0
+Stand entry b history = StandAll (origin_of entry.entry) b.room.room.sealed b.buckets history
 
 -- besides, few entries wait, and what failed is told
 pub record IsGoing (group : ℕ) (entry : RoomValue) (b : Body) (history : List Commit) : Type 0 where

@@ -1,5 +1,5 @@
 -- What a transaction does, step by step. Each step is said of every entry at which a run began, and of every history that the body has since.
-use Rattle.std.specs.Prelude.{◌≡◌, ◌≢◌, ◌⊎◌, ℕ, ◌+◌, ◌-◌, ◌<◌, ◌≤◌, slice_set, true, false, List, [], ◌∷◌, ◌++◌, length, Option, Some, None, Result, Ok, Err}
+use Rattle.std.specs.Prelude.{◌≡◌, ◌≢◌, ◌⊎◌, ℕ, ◌+◌, ◌-◌, ◌<◌, ◌≤◌, slice_set, Bool, true, false, List, [], ◌∷◌, ◌++◌, length, Option, Some, None, Result, Ok, Err}
 use Rattle.std.specs.List.{AllByRecursion, list_all}
 use Rattle.fine_model.specs.declared.Call.{Call}
 use Rattle.fine_model.specs.declared.Damage.TheVariants as damage
@@ -9,6 +9,7 @@ use Rattle.fine_model.specs.declared.FetchFault.{FetchFault}
 use Rattle.fine_model.specs.declared.FetchFault.TheVariants as fetch_fault
 use Rattle.fine_model.specs.declared.Outcome.{Outcome}
 use Rattle.fine_model.specs.declared.Outcome.TheVariants as outcome
+use Rattle.fine_model.specs.declared.Row.{Row}
 use Rattle.fine_model.specs.declared.RunFault.{RunFault}
 use Rattle.fine_model.specs.declared.RunFault.TheVariants as run_fault
 use Rattle.fine_model.specs.declared.ScriptTxn.{ScriptTxn}
@@ -18,7 +19,7 @@ use Rattle.fine_model.specs.Becomes.{Becomes}
 use Rattle.fine_model.specs.Boards.{is_empty}
 use Rattle.fine_model.specs.History.{Commit, all_rows}
 use Rattle.fine_model.specs.Outcomes.{IsOutcomeOf}
-use Rattle.node_cache.specs.Cache.{after as settled_under, before as as_before}
+use Rattle.fine_model.specs.Pushed.{all_pushed}
 use Rattle.btree_nodes.specs.declared.fault.TreeFault.{TreeFault}
 use Rattle.btree_nodes.specs.declared.fault.TreeFault.TheVariants.{BucketFull, NoMemory, Number, Source, Unfit}
 use Rattle.txn_draft.specs.Drafts.{DraftValue, entry_of}
@@ -29,17 +30,15 @@ use Rattle.epoch_room.specs.Whole.{IsWhole}
 use Rattle.partition_hold.specs.Views.{ViewValue}
 use Rattle.room_shelf.specs.Shelves.{IsClean, IsLater, IsShelf, ViewOr}
 use Rattle.open_txn.specs.Buckets.{BucketsValue}
-use Rattle.open_txn.specs.Opened.{AnswersCalls, IsOpen, LeavesEach, SettlesAll, UndoesAll}
+use Rattle.open_txn.specs.Opened.{AnswersCalls, IsOpen, SettlesAll, UndoesAll}
 use Rattle.room_steps.specs.Laws.{TellsNow}
 use Rattle.room_steps.specs.Steps.{MakesRoom}
 use Rattle.run_laws.specs.Lanes.{EndsLane, with_last}
-use Rattle.run_laws.specs.Needs.{EndsInNeed, IsInNeed, IsSealed, RunsInNeed, Unsealed}
+use Rattle.run_laws.specs.Needs.{EndsInNeed, HadNeedBefore, IsInNeed, IsSealed, RunsInNeed, Unsealed}
 use Rattle.run_laws.specs.Runs.{IsReady, IsReplied, OfSound}
-use Rattle.run_laws.specs.SoFar.{AreFewSoFar, AreTold, ComesNext, GoesOn}
+use Rattle.run_laws.specs.SoFar.{AreFewSoFar, AreTold, ComesNext, GoesOn, KeepsFlag}
 use Rattle.run_laws.specs.Turns.{AreNumbered, RefusesBehind, commits_of}
 use Rattle.txn_runner.specs.Body.{Body, Goes, IsBetween, IsGoing, Stand, count_of, shelf_of}
-use Rattle.txn_runner.specs.Named.{Blames, BlamesCalls, NamesLast, NamesNext}
-use Rattle.txn_runner.specs.Opening.{Opens}
 
 -- ---- faults
 
@@ -62,6 +61,11 @@ of_tree (Source fault) = Err (of_fetch fault)
 of_tree (Unfit id) = Err (run_fault.Damaged (damage.Node id))
 of_tree NoMemory = Err run_fault.Memory
 
+-- a fault that is want of memory
+abbrev pub is_memory : Option RunFault → Bool
+is_memory (Some run_fault.Memory) = true
+is_memory _ = false
+
 -- a transaction that the script aborts is not refused
 abbrev pub refused_as : Ending → Why → Outcome
 refused_as ending.Commit word = outcome.Refused word
@@ -80,7 +84,6 @@ pub record Reads (old new : Body) : Type 0 where
 -- what was done to the buckets is taken back, and nothing else is changed
 pub record TakesBack (old new : Body) : Type 0 where
   pub buckets : UndoesAll old.room.room.sealed old.buckets new.buckets
-  pub left : LeavesEach old.room.room.sealed as_before old.buckets new.buckets
   pub rest : new ≡ record old { buckets = new.buckets }
   pub whole : IsWhole new.room
 
@@ -94,13 +97,14 @@ pub record Looks (old new : Body) (result : Result ViewValue FetchFault) : Type 
 abbrev pub Behind : ℕ → Body → (RoomValue → List Commit → Type 0) → Type 0
 Behind group old P = (entry : RoomValue) (history : List Commit) → IsReady entry → IsBetween group entry old history → P entry history
 
--- The calls were all answered, or refused for a reason that the definitions have too, or a fault came. The buckets are open in the first case alone, over some that stood for the history, by the bytes at entry too; what a fault names is damage of them.
+-- The calls were all answered, or refused for a reason that the definitions have too, or a fault came. The buckets are open in the first case alone, over some that stood for the history.
 abbrev pub Answers : ℕ → Body → Body → DraftValue → List Call → Result (Option Why) RunFault → Type 0
 Answers group old new d calls (Ok None) =
-    Reads old new × IsClean (shelf_of old) (shelf_of new) × AnswersCalls calls d × Behind group old (λ entry history. ((taken : BucketsValue) × IsOpen (origin_of entry.entry) old.room.room.sealed history taken new.buckets d) × Opens (origin_of entry.entry) new.room.room new.buckets history calls d.rows)
+    Reads old new × IsClean (shelf_of old) (shelf_of new) × AnswersCalls calls d × Behind group old (λ entry history. (taken : BucketsValue) × IsOpen (origin_of entry.entry) old.room.room.sealed history taken new.buckets d)
 Answers group old new d calls (Ok (Some word)) =
-    Reads old new × IsClean (shelf_of old) (shelf_of new) × Behind group old (λ entry history. Stand entry new history × OfSound entry (λ first e. RefusesBehind new.room.room (first ++ all_rows history) calls word))
-Answers group old new d calls (Err fault) = Reads old new × Behind group old (λ entry history. Stand entry new history × TellsWith entry new fault × BlamesCalls entry history calls fault)
+    Reads old new × IsClean (shelf_of old) (shelf_of new) × (word ≢ why.Full)
+    × Behind group old (λ entry history. Stand entry new history × OfSound entry (λ first e. RefusesBehind new.room.room (first ++ all_rows history) calls word))
+Answers group old new d calls (Err fault) = Reads old new × Behind group old (λ entry history. Stand entry new history × TellsWith entry new fault)
 
 -- They were answered so, or a node is not cached that they need, and the body is between transactions again.
 abbrev pub AnswersCached : ℕ → Body → Body → DraftValue → List Call → Option (Result (Option Why) RunFault) → Type 0
@@ -128,12 +132,22 @@ pub record LeavesWell (group : ℕ) (entry : RoomValue) (old new : Body) (histor
   pub told : AreTold entry new.room (count_of new) new.ended new.ended
 
 -- nothing of it is left, and a fault of its calls, or of what was done for them, is to end its lane
-pub record LeavesFault (group : ℕ) (entry : RoomValue) (old new : Body) (history : List Commit) (calls : List Call) (fault : RunFault) : Type 0 where
+pub record LeavesFault (group : ℕ) (entry : RoomValue) (old new : Body) (history : List Commit) (fault : RunFault) : Type 0 where
   pub leaves : Leaves group entry old new history []
   pub stand : Stand entry new history
   pub in_need : WasInNeed group entry old history → IsInNeed group entry new.room new.full history
   pub told : TellsWith entry new fault
-  pub blames : BlamesCalls entry history calls fault
+  pub full : new.full ≡ old.full
+
+-- on a sound log the epoch before what calls push behind a history was sealed in need
+abbrev pub HadNeedOf : ℕ → RoomValue → List Commit → List Call → Type 0
+HadNeedOf group entry history calls =
+    OfSound entry (λ first e. (rows : List Row) → all_pushed (first ++ all_rows history) calls ≡ Ok rows → HadNeedBefore entry.room.region_len group entry.room.sealed history rows)
+
+-- The flag of a full log with an outcome, and the need of the first transaction that is refused as full.
+pub record MarksFull (group : ℕ) (entry : RoomValue) (old new : Body) (history : List Commit) (calls : List Call) (next : Outcome) : Type 0 where
+  pub flag : KeepsFlag old.full new.full next
+  pub full_need : next ≡ outcome.Refused why.Full → old.full ≡ false → WasInNeed group entry old history → HadNeedOf group entry history calls
 
 -- room is made for rows of a cost, or not: only the room with its view, and the flag, are others
 pub record MakesPlace (cost : ℕ) (old new : Body) (result : Result (Option Why) RunFault) : Type 0 where
@@ -148,13 +162,12 @@ pub record Appends (d : DraftValue) (old new : Body) (next : Outcome) : Type 0 w
   pub becomes : Becomes old.room.room new.room.room
   pub whole : IsWhole new.room
   pub buckets : SettlesAll (old.room.room.sealed + 1) old.room.room.sealed old.buckets new.buckets
-  pub left : LeavesEach old.room.room.sealed (λ b. settled_under b (old.room.room.sealed + 1)) old.buckets new.buckets
   pub rest : new ≡ record old { room = new.room; buckets = new.buckets }
 
--- P of each entry and history behind which a transaction is open, all of whose calls were answered, by the bytes at entry too
+-- P of each entry and history behind which a transaction is open, all of whose calls were answered
 abbrev pub WhileOpen : ℕ → Body → DraftValue → (RoomValue → List Commit → Type 0) → Type 0
 WhileOpen group b d P = (entry : RoomValue) (history : List Commit) (low : ℕ) (taken : BucketsValue) → IsReady entry → IsGoing group entry b history → low ≤ b.room.room.sealed
-    → IsOpen (origin_of entry.entry) low history taken b.buckets d → Opens (origin_of entry.entry) b.room.room b.buckets history d.calls d.rows → P entry history
+    → IsOpen (origin_of entry.entry) low history taken b.buckets d → P entry history
 
 -- committed at the next place, in the open epoch, or refused for a reason that the definitions have too
 abbrev pub IsEndOf : RoomValue → List Commit → DraftValue → Body → Outcome → Type 0
@@ -163,8 +176,9 @@ IsEndOf entry history d new (outcome.Refused word) = OfSound entry (λ first e. 
 IsEndOf entry history d new _ = ⊥
 
 abbrev pub TriesToCommit : ℕ → Body → Body → DraftValue → Result Outcome RunFault → Type 0
-TriesToCommit group old new d (Ok next) = WhileOpen group old d (λ entry history. LeavesWell group entry old new history (commits_of (next ∷ [])) × IsEndOf entry history d new next)
-TriesToCommit group old new d (Err fault) = WhileOpen group old d (λ entry history. LeavesFault group entry old new history d.calls fault)
+TriesToCommit group old new d (Ok next) =
+    WhileOpen group old d (λ entry history. LeavesWell group entry old new history (commits_of (next ∷ [])) × IsEndOf entry history d new next × MarksFull group entry old new history d.calls next)
+TriesToCommit group old new d (Err fault) = WhileOpen group old d (λ entry history. LeavesFault group entry old new history fault)
 
 -- ---- a transaction
 
@@ -184,8 +198,8 @@ BehindTxns group turn old P = (entry : RoomValue) (done : List Outcome) → IsRe
 -- it was run, or a fault is to end its lane, and then nothing of it is left
 abbrev pub Tries : ℕ → Body → Body → ScriptTxn → ℕ → Result Outcome RunFault → Type 0
 Tries group old new txn turn (Ok next) =
-    BehindTxns group turn old (λ entry done. LeavesWell group entry old new (commits_of done) (commits_of (next ∷ [])) × IsTried entry done txn next new)
-Tries group old new txn turn (Err fault) = BehindTxns group turn old (λ entry done. LeavesFault group entry old new (commits_of done) txn.calls fault)
+    BehindTxns group turn old (λ entry done. LeavesWell group entry old new (commits_of done) (commits_of (next ∷ [])) × IsTried entry done txn next new × MarksFull group entry old new (commits_of done) txn.calls next)
+Tries group old new txn turn (Err fault) = BehindTxns group turn old (λ entry done. LeavesFault group entry old new (commits_of done) fault)
 
 -- ---- the seal of a group
 
@@ -200,7 +214,7 @@ pub record SealsOn (entry : RoomValue) (old new : Body) (history : List Commit) 
 -- What waited was sealed. With a fault nothing was, or it came behind the seal.
 abbrev pub SealsGroup : Body → Body → Result (Unit {0}) RunFault → RoomValue → List Commit → Type 0
 SealsGroup old new (Ok u) entry history = SealsOn entry old new history × AreTold entry new.room (count_of new) new.ended new.ended × IsSealed old.room.room new.room.room
-SealsGroup old new (Err fault) entry history = SealsOn entry old new history × TellsWith entry new fault × (Unsealed old.room.room new.room.room ⊎ IsSealed old.room.room new.room.room) × Blames entry fault
+SealsGroup old new (Err fault) entry history = SealsOn entry old new history × TellsWith entry new fault × (Unsealed old.room.room new.room.room ⊎ IsSealed old.room.room new.room.room)
 
 -- for each entry and history behind which the body goes on
 abbrev pub SealsAll : Body → Body → Result (Unit {0}) RunFault → Type 0
@@ -230,25 +244,24 @@ pub record RunsTxn (group : ℕ) (entry : RoomValue) (done : List Outcome) (txn 
   pub between : IsBetween group entry new (commits_of done ++ commits_of (next ∷ []))
   pub becomes : Becomes old.room.room new.room.room
   pub comes : Comes done old.ended new.ended txn next
-  pub names : NamesNext entry done txn next old.ended new.ended
   -- what waits is sealed for a full group, and where the rows of this transaction do not fit its region, and for nothing else
   pub in_need : RunsInNeed group txn.lane entry old.room old.full old.ended (commits_of done) → RunsInNeed group txn.lane entry new.room new.full new.ended (commits_of done ++ commits_of (next ∷ []))
+  pub flag : KeepsFlag old.full new.full next
+  pub full_need : next ≡ outcome.Refused why.Full → old.full ≡ false → RunsInNeed group txn.lane entry old.room old.full old.ended (commits_of done) → HadNeedOf group entry (commits_of done) txn.calls
   pub refused : (word : Why) → next ≡ outcome.Refused word → OfSound entry (λ first e. RefusesBehind new.room.room (first ++ all_rows (commits_of done)) txn.calls word)
 
 -- ---- the end
 
--- The view was taken back, and what waited was sealed, unless the room is shut or memory ran out, and then it waits still: the fault of this last seal is told beside those of lanes. The buckets stand as before.
+-- The view was taken back, and what waited was sealed, unless the room is shut or memory ran out, and then it waits still: the fault of this last seal is told beside those of lanes.
 pub record IsClosed (entry : RoomValue) (old new : Body) (history : List Commit) (last : Option RunFault) : Type 0 where
   pub goes_on : GoesOn entry new.room history
   pub tells : AreTold entry new.room new.room.disk.faults old.ended (with_last old.ended last)
-  pub names : NamesLast entry history old.ended (with_last old.ended last)
   pub becomes : Becomes old.room.room new.room.room
   pub board : list_all is_empty new.room.room.board ≡ true
   pub sealed : new.room.room.is_shut ≡ false → (last ≡ Some run_fault.Memory → ⊥) → new.room.room.waiting ≡ 0
   pub some_wait : last ≡ Some run_fault.Memory → 1 ≤ new.room.room.waiting
   pub ended : new.ended ≡ old.ended
-  pub stand : Stand entry new history
 
 -- of a body between transactions, for each entry and history
 abbrev pub Closes : Body → Body → Option RunFault → Type 0
-Closes old new last = (entry : RoomValue) (history : List Commit) → IsReady entry → Goes entry old history → AreTold entry old.room (count_of old) old.ended old.ended → Stand entry old history → IsClosed entry old new history last
+Closes old new last = (entry : RoomValue) (history : List Commit) → IsReady entry → Goes entry old history → AreTold entry old.room (count_of old) old.ended old.ended → IsClosed entry old new history last

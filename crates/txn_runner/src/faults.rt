@@ -1,8 +1,7 @@
 //! What faults of calls are told as.
 
 ghost use Rattle.std.specs.Prelude.{◌≡◌};
-ghost use Rattle.txn_runner.specs.Left.{is_memory};
-ghost use Rattle.txn_runner.specs.Steps.{of_fetch, of_tree};
+ghost use Rattle.txn_runner.specs.Steps.{is_memory, of_fetch, of_tree};
 
 use btree_nodes::TreeFault;
 use fine_model::{Damage, FetchFault, RunFault, Why};

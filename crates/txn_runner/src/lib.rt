@@ -3,7 +3,6 @@
 
 mod committing;
 mod faults;
-mod laws;
 mod reading;
 mod run;
 mod runner;
@@ -11,6 +10,5 @@ mod sealing;
 mod seats;
 mod txn;
 
-pub use laws::{follows_law, left_log_law, opens_law, places_law};
 pub use open_txn::Buckets;
 pub use run::{run_cached, run_lanes};

@@ -8,9 +8,8 @@ ghost use Rattle.fine_model.specs.Bounds.{FitsScript};
 ghost use Rattle.epoch_room.specs.Value.{RoomValue};
 ghost use Rattle.open_txn.specs.Buckets.{BucketsValue};
 ghost use Rattle.room_shelf.specs.Shelves.{IsShelf};
-ghost use Rattle.run_laws.specs.Runs.{IsReady};
+ghost use Rattle.run_laws.specs.Runs.{IsReady, RunsLanes};
 ghost use Rattle.txn_runner.specs.Body.{RunsSoFar, body};
-ghost use Rattle.txn_runner.specs.Left.{RunsOn};
 
 use crate::faults::is_memory;
 use crate::runner::Runner;
@@ -36,8 +35,7 @@ fn none_run(alloc: Global, count: usize) -> Result<Outcomes, NoMemory>
 /// What a run gives for which there was no memory to begin.
 fn not_begun<D: LogDisk>(alloc: Global, room: Room<D>) -> (Ran, Room<D>)
     requires ready { IsReady room }
-    ensures run { (script : List ScriptTxn) (options : Limits) → RunsOn script options room result.1 result.0 }
-    ensures entry { result.1.entry ≡ room.entry }
+    ensures { (script : List ScriptTxn) (options : Limits) → RunsLanes script options room result.1 result.0 }
 {
     let durable = room.sealed();
     let ran = Ran {
@@ -82,8 +80,7 @@ fn finish<D: LogDisk, G: Gate>(
 ) -> (Ran, Room<D>)
     requires shelf { IsShelf runner.room.room runner.view }
     requires no_job { runner.room.room.job ≡ None }
-    ensures run { (script : List ScriptTxn) (options : Limits) (entry : RoomValue) (buckets : BucketsValue) → IsReady entry → RunsSoFar script options (length script) entry (body runner buckets) outcomes → RunsOn script options entry result.1 result.0 }
-    ensures entry { (script : List ScriptTxn) (options : Limits) (entry : RoomValue) (buckets : BucketsValue) → IsReady entry → RunsSoFar script options (length script) entry (body runner buckets) outcomes → result.1.entry ≡ entry.entry }
+    ensures { (script : List ScriptTxn) (options : Limits) (entry : RoomValue) (buckets : BucketsValue) → IsReady entry → RunsSoFar script options (length script) entry (body runner buckets) outcomes → RunsLanes script options entry result.1 result.0 }
 {
     let last = runner.close(gate);
     let unsealed = is_memory(last);
@@ -103,10 +100,9 @@ fn finish<D: LogDisk, G: Gate>(
 /// each transaction of a lane that goes on begins and ends, and behind each seal, for the seat that the lane has where each runs on a thread of its own: from 2 on, in the order of the lanes. The last seal
 /// is the caller's, behind these. No point of a merge is called. `tries` is not used on one thread.
 ///
-/// On return the room is whole, no view of it is out, and its disk went on from the one that it was made on. On a sound log that the disk told it stands for all that was committed, and each refusal has
-/// its cause. Without a fault it leaves what a reader of the whole log has to know (`RunsOn`). `unsealed` says that memory was wanting for the last seal, so that entries wait which are
-/// not durable; else all that was committed is durable, whatever ended the lanes, unless the disk failed on its own. What is named as damaged is damage of the bytes at entry, on any log that the disk told then and that has a chain, in the grammar or not: a place that is bad, or a node that
-/// calls of the script meet unfit.
+/// On return the room is whole, no view of it is out, and it is a room of the same log at entry. On a sound log that the disk told it stands for all that was committed, and each refusal has
+/// its cause. `unsealed` says that memory was wanting for the last seal, so that entries wait which are not durable; else all that was committed is durable, whatever ended the lanes,
+/// unless the disk failed on its own. Damage is told on a log alone that is not sound; which place or node is named, no clause says.
 pub fn run_lanes<D: LogDisk, G: Gate>(
     alloc: Global,
     room: Room<D>,
@@ -117,8 +113,7 @@ pub fn run_lanes<D: LogDisk, G: Gate>(
     requires ready { IsReady room }
     requires script { FitsScript script.now }
     requires group { 1 ≤ options.now.group }
-    ensures run { RunsOn script.now options.now room result.1 result.0 }
-    ensures entry { result.1.entry ≡ room.entry }
+    ensures run { RunsLanes script.now options.now room result.1 result.0 }
 {
     let (ran, room, _cached) = run_cached(alloc, room, script, gate, options);
     (ran, room)
@@ -136,8 +131,7 @@ pub fn run_cached<D: LogDisk, G: Gate>(
     requires ready { IsReady room }
     requires script { FitsScript script.now }
     requires group { 1 ≤ options.now.group }
-    ensures run { RunsOn script.now options.now room result.1 result.0 }
-    ensures entry { result.1.entry ≡ room.entry }
+    ensures run { RunsLanes script.now options.now room result.1 result.0 }
 {
     let Ok(mut outcomes) = none_run(alloc, script.len()) else {
         let (ran, room) = not_begun(alloc, room);

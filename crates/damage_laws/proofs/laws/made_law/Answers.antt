@@ -1,7 +1,6 @@
 use Rattle.damage_laws.proofs.Joins.{joins, looked_up}
-use Rattle.damage_laws.proofs.GoodFinds.{kept_rows, sealed_rows}
-use Rattle.damage_laws.proofs.MergedFinds.{beside_law, fetch_law, gathered_law, joined_law, kept_law, merged_law, sealed_law}
+use Rattle.damage_laws.proofs.MergedFinds.{beside_law, gathered_law, kept_law, sealed_law}
 use Rattle.damage_laws.proofs.laws.made_law.Goals as goal
 
 pub returns : goal.returns
-returns c = record { kept = kept_law; sealed = sealed_law; kept_rows = kept_rows; sealed_rows = sealed_rows; joined = joined_law; looked_up = looked_up; joins = joins; beside = beside_law; gathered = gathered_law; merged = merged_law; fetch = fetch_law }
+returns c = record { kept = kept_law; sealed = sealed_law; looked_up = looked_up; joins = joins; beside = beside_law; gathered = gathered_law }

@@ -7,6 +7,7 @@ use Rattle.fine_model.specs.declared.Row.{Row}
 use Rattle.fine_model.specs.declared.law.Origin.{Origin}
 use Rattle.fine_model.specs.Buckets.{Began}
 use Rattle.fine_model.specs.History.{Commit, all_rows}
+use Rattle.fine_model.specs.Store.{IsReplyTo}
 use Rattle.fine_model.proofs.Histories.Legal.{legal_map}
 use Rattle.fine_model.proofs.Histories.Stated.{shown_small}
 use Rattle.node_cache.specs.Cache.{Cache}
@@ -17,7 +18,7 @@ use Rattle.txn_draft.specs.Uses.{IsUsed}
 use Rattle.txn_draft.proofs.Lasting.{holds_law, serves_law}
 use Rattle.txn_draft.proofs.Lawful.{blank_law, taken_law}
 use Rattle.open_txn.specs.Buckets.{BucketsValue}
-use Rattle.open_txn.specs.Opened.{AnswersCalls, HasCause, HasReply, IsOpen, IsReady, IsRefusal, UseAll, TouchesOf}
+use Rattle.open_txn.specs.Opened.{AnswersCalls, HasCause, IsOpen, IsReady, IsRefusal, UseAll, TouchesOf}
 use Rattle.open_txn.specs.Steps.{Advances, IsServed, Refuses}
 
 some_same : {A : Type 0} (a b : A) → ◌≡◌ {A = Option A} (Some a) (Some b) → a ≡ b
@@ -54,7 +55,7 @@ module _ (tells : List Row → Type 0) (upper lane turn : ℕ) (v : BucketsValue
     answers_calls = record {
       not_failed = one.not_failed;
       same = all_calls;
-      replied = subst (λ cs. AllZip HasReply cs d'.replies) (sym all_calls) (subst (AllZip HasReply calls) (sym (one.replied.behind ∙ ap (λ x. x.replies ++ one.replied.replies) is_blank)) one.replied.each);
+      replied = subst (λ cs. AllZip IsReplyTo cs d'.replies) (sym all_calls) (subst (AllZip IsReplyTo calls) (sym (one.replied.behind ∙ ap (λ x. x.replies ++ one.replied.replies) is_blank)) one.replied.each);
       fits = one.fits (subst FitsDraft (sym is_blank) (record { fit = tt; here = tt }));
     }
 

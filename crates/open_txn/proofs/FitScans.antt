@@ -1,5 +1,5 @@
 -- A scan that meets no node unfit finds pairs whose keys ascend and belong to its bucket, be the log sound or not.
-use Rattle.std.proofs.Common.{◌≡◌, ℕ, zero, suc, ◌+◌, ◌-◌, ◌==◌, Bool, true, false, cond, ◌&&◌, not, List, [], ◌∷◌, ◌++◌, length, take, Some, Result, Ok, Err, refl, sym, ap, subst, ◌∙◌, true≢false, arith, eqb-true, nat_lt, nat_le, None}
+use Rattle.std.proofs.Common.{◌≡◌, ℕ, zero, suc, ◌+◌, ◌-◌, ◌==◌, Bool, true, false, cond, ◌&&◌, not, List, [], ◌∷◌, ◌++◌, length, take, Some, Result, Ok, Err, refl, sym, ap, subst, ◌∙◌, true≢false, arith, eqb-true, nat_lt, None}
 use Rattle.std.specs.List.{AllByRecursion, list_all}
 use Rattle.std.proofs.lemmas.Bool.{not-true}
 use Rattle.std.proofs.lemmas.List.{length-append}
@@ -18,7 +18,7 @@ use Rattle.fine_model.proofs.Ordered.Sets.{all_append, all_filter, all_from_list
 use Rattle.fine_model.proofs.Trees.Among.{all_above_first, ascending-append, tail_ascends}
 use Rattle.fine_model.proofs.Trees.Bounded.{not_lower}
 use Rattle.btree_nodes.specs.Trees.{kids_met, pairs_between, pairs_met}
-use Rattle.btree_nodes.proofs.ScanHeads.{Opens, goes_through, opened, wants}
+use Rattle.btree_nodes.proofs.ScanHeads.{goes_through, opened, wants}
 use Rattle.btree_nodes.proofs.ScanSteps.{first, kids_go, kids_stop}
 use Rattle.btree_nodes.proofs.SameScans.{not_both, same_value, tested}
 use Rattle.btree_nodes.proofs.Takes.{between-append, between_none, none_taken, take_both, take_nothing}

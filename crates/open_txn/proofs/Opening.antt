@@ -1,7 +1,8 @@
 -- The calls of a transaction on buckets that stand for a history.
-use Rattle.std.proofs.Common.{◌≡◌, ℕ, List, [], ◌++◌, slice_get, Some, Option, Result, Ok, Err, sym, ap, ◌∙◌, subst}
+use Rattle.std.proofs.Common.{◌≡◌, ℕ, List, [], ◌++◌, slice_get, Some, Result, Ok, Err, sym, ap, ◌∙◌, subst}
 use Rattle.std.specs.Prelude.{IfErr, OnOk}
 use Rattle.std.specs.List.{AllZip}
+use Rattle.std.proofs.lemmas.Option.{same_Some}
 use Rattle.fine_model.specs.declared.Call.{Call}
 use Rattle.fine_model.specs.declared.Row.{Row}
 use Rattle.fine_model.specs.declared.law.Origin.{Origin}
@@ -21,9 +22,6 @@ use Rattle.open_txn.specs.Buckets.{BucketsValue}
 use Rattle.open_txn.specs.Opened.{AnswersCalls, HasCause, IsOpen, IsReady, IsRefusal, UseAll, TouchesOf}
 use Rattle.open_txn.specs.Steps.{Advances, IsServed, Refuses}
 
-some_same : {A : Type 0} (a b : A) → ◌≡◌ {A = Option A} (Some a) (Some b) → a ≡ b
-some_same a b e = cc
-
 module _ (tells : List Row → Type 0) (upper lane turn : ℕ) (v : BucketsValue) (d : DraftValue) (is_blank : d ≡ blank lane turn) where
   none : d.rows ≡ []
   none = ap (λ x. x.rows) is_blank
@@ -34,8 +32,8 @@ module _ (tells : List Row → Type 0) (upper lane turn : ℕ) (v : BucketsValue
 
     used : UseAll low v v d.rows
     used = record {
-      each = λ k t b is_t is_b. let same : b ≡ t = some_same b t (sym is_b ∙ is_t) in subst (λ (x : Cache). IsUsed low t x d.rows) (sym same) (rests k t is_t);
-      untouched = λ k t b is_t is_b flag. some_same b t (sym is_b ∙ is_t);
+      each = λ k t b is_t is_b. let same : b ≡ t = same_Some b t (sym is_b ∙ is_t) in subst (λ (x : Cache). IsUsed low t x d.rows) (sym same) (rests k t is_t);
+      untouched = λ k t b is_t is_b flag. same_Some b t (sym is_b ∙ is_t);
     }
 
     served : (e : ℕ) (first : List Row) → Began log e first → IsServed tells (first ++ all_rows history) v d

@@ -10,7 +10,7 @@ use Rattle.fine_model.specs.declared.FetchFault.TheVariants as fetch_fault
 use Rattle.fine_model.specs.declared.Row.{Row}
 use Rattle.fine_model.specs.declared.Why.TheVariants as why
 use Rattle.fine_model.specs.Pushed.{all_pushed, key_of}
-use Rattle.fine_model.specs.Store.{answer}
+use Rattle.fine_model.specs.Store.{IsReplyTo, answer}
 use Rattle.fine_model.specs.Trees.{bucket_of}
 use Rattle.fine_model.proofs.Ordered.Order.{all_map}
 use Rattle.fine_model.proofs.Trees.PushedCalls.{pushed_stops}
@@ -21,14 +21,15 @@ use Rattle.btree_nodes.specs.declared.fault.TreeFault.TheVariants.{Source, Unfit
 use Rattle.btree_nodes.specs.Calls.{IsChange, OnCleanAnswer}
 use Rattle.btree_nodes.specs.Trees.{Holds, Restores, Serves, pairs_in}
 use Rattle.txn_draft.specs.Answers.{AnswersSoundly, FailsBy, KeepsBy, LeavesDraft}
-use Rattle.txn_draft.specs.Drafts.{DraftValue, FitsDraft, IsAnswered, Keeps, is_here}
+use Rattle.txn_draft.specs.Drafts.{DraftValue, FitsDraft, IsAnswered, Keeps, is_here, is_scan}
 use Rattle.txn_draft.specs.Laws.{AreElsewhere}
 use Rattle.txn_draft.specs.Uses.{IsUsed, OnKept, Undoes, UsedAfter}
 use Rattle.txn_draft.proofs.Lawful.{others_law, used_law}
 use Rattle.txn_draft.proofs.Undoing.{restored, undone}
 use Rattle.open_txn.specs.Buckets.{AreBuckets, BucketsValue}
-use Rattle.open_txn.specs.Opened.{HasCause, HasReply, KeepsUntouched, UndoAll, UseAll, TouchesOf}
+use Rattle.open_txn.specs.Opened.{HasCause, KeepsUntouched, UndoAll, UseAll, TouchesOf}
 use Rattle.open_txn.specs.Steps.{AddsReplies, Advances, Refuses}
+use Rattle.open_txn.proofs.KeyReplies.{key_reply}
 use Rattle.open_txn.proofs.Places.{each_of_set, item_of_set, zip_append}
 
 -- ---- what is told of the source
@@ -109,7 +110,7 @@ module _ (tells mid : List Row → Type 0) (upper upper' : ℕ) (same : upper' �
     replied = record {
       replies = one.replied.replies ++ two.replied.replies;
       behind = two.replied.behind ∙ ap (λ l. l ++ two.replied.replies) one.replied.behind ∙ append_assoc d.replies one.replied.replies two.replied.replies;
-      each = zip_append HasReply cs one.replied.replies ds two.replied.replies one.replied.each two.replied.each;
+      each = zip_append IsReplyTo cs one.replied.replies ds two.replied.replies one.replied.each two.replied.each;
     };
     fits = λ fits. two.fits (one.fits fits);
     uses = λ low taken used most. two.uses low taken (one.uses low taken used most) (subst (λ (n : ℕ). low ≤ n) (sym same) most);
@@ -187,11 +188,11 @@ pub still_served : (tells tells' : List Row → Type 0) (b : Cache) (rows : List
 still_served tells tells' b rows later serves = record { known = serves.known; is_told = later serves.known serves.is_told; each = serves.each }
 
 -- the reply to a call, by the pairs of the leaf that its key leads to
-pub replied_by : (tells : List Row → Type 0) (finds : Finds) (upper : ℕ) (b b' : Cache) (d d' : DraftValue) (c : Call) (F : FetchFault → Type 0) (r : Result (Unit {0}) TreeFault) (done : Unit {0}) → r ≡ Ok done
+pub replied_by : (tells : List Row → Type 0) (finds : Finds) (upper : ℕ) (b b' : Cache) (d d' : DraftValue) (c : Call) (F : FetchFault → Type 0) (r : Result (Unit {0}) TreeFault) (done : Unit {0}) → is_scan c ≡ false → r ≡ Ok done
     → IsChange tells finds upper b b' d.rows d'.rows c (λ mid _. KeepsBy (pairs_in mid (key_of c)) c d d') F r → AddsReplies (c ∷ []) d.replies d'.replies
-replied_by tells finds upper b b' d d' c F r done ok change =
+replied_by tells finds upper b b' d d' c F r done no_scan ok change =
     let was = subst (IsChange tells finds upper b b' d.rows d'.rows c (λ mid _. KeepsBy (pairs_in mid (key_of c)) c d d') F) ok change in
-    record { replies = (answer (pairs_in was.mid (key_of c)) c).0 ∷ []; behind = ap (λ x. x.replies) was.outcome.0; each = ((pairs_in was.mid (key_of c), refl), tt) }
+    record { replies = (answer (pairs_in was.mid (key_of c)) c).0 ∷ []; behind = ap (λ x. x.replies) was.outcome.0; each = (key_reply (pairs_in was.mid (key_of c)) c no_scan, tt) }
 
 module _ (tells tells' : List Row → Type 0) (upper k : ℕ) (v v' : BucketsValue) (b b' : Cache) (d d' : DraftValue) (c : Call) (whole : AreBuckets v) (there : slice_get v.buckets k ≡ Some b)
     (buckets : v'.buckets ≡ slice_set v.buckets k b') (flags : v'.touched ≡ slice_set v.touched k true) (of_key : k ≡ bucket_of (key_of c)) (later : (rows : List Row) → tells rows → tells' rows) (r : Result (Unit {0}) TreeFault)
@@ -233,10 +234,10 @@ module _ (tells tells' : List Row → Type 0) (upper k : ℕ) (v v' : BucketsVal
     touches = touches_one k v v' c more flags of_key;
   }
 
-  pub advances_in : (finds : Finds) (F : FetchFault → Type 0) → d.failed ≡ false → OnOk r (Keeps c d d') → IsChange tells finds upper b b' d.rows d'.rows c (λ mid _. KeepsBy (pairs_in mid (key_of c)) c d d') F r → OnOk r (FitsDraft d → FitsDraft d')
+  pub advances_in : (finds : Finds) (F : FetchFault → Type 0) → is_scan c ≡ false → d.failed ≡ false → OnOk r (Keeps c d d') → IsChange tells finds upper b b' d.rows d'.rows c (λ mid _. KeepsBy (pairs_in mid (key_of c)) c d d') F r → OnOk r (FitsDraft d → FitsDraft d')
       → ((rows : List Row) → Serves tells b rows → OnKept r (Serves tells' b' rows)) → OnOk r (Advances tells tells' upper v v' d d' (c ∷ []))
-  advances_in finds F was keeps change fits serves = ok_of (Advances tells tells' upper v v' d d' (c ∷ [])) r
-      (λ done ok. answered_in done ok was (subst (λ (x : Result (Unit {0}) TreeFault). OnOk x (Keeps c d d')) ok keeps) (replied_by tells finds upper b b' d d' c F r done ok change)
+  advances_in finds F no_scan was keeps change fits serves = ok_of (Advances tells tells' upper v v' d d' (c ∷ [])) r
+      (λ done ok. answered_in done ok was (subst (λ (x : Result (Unit {0}) TreeFault). OnOk x (Keeps c d d')) ok keeps) (replied_by tells finds upper b b' d d' c F r done no_scan ok change)
       (subst (λ (x : Result (Unit {0}) TreeFault). OnOk x (FitsDraft d → FitsDraft d')) ok fits) serves)
 
   pub refuses_in : IfErr r (λ fault. (more : List Call) → Refuses tells upper v v' d (c ∷ more) fault)

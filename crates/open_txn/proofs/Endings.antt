@@ -2,16 +2,16 @@
 use Rattle.std.proofs.Common.{◌≡◌, ◌≢◌, ⊎_elim, ℕ, zero, suc, ◌<◌, Bool, true, false, true≢false, List, length, replicate, get_or, slice_get, slice_set, Option, Some, refl, sym, ap, ◌∙◌, subst, arith}
 use Rattle.std.specs.Prelude.{if◌then◌else◌}
 use Rattle.std.proofs.lemmas.List.{length-set, length-replicate}
-use Rattle.std.proofs.lemmas.Option.{get_or_from_slice_get, slice_get-get_or, slice_get_within}
+use Rattle.std.proofs.lemmas.Option.{get_or_from_slice_get, same_Some, slice_get-get_or, slice_get_within}
 use Rattle.node_cache.specs.Cache.{Cache}
 use Rattle.btree_nodes.proofs.Loads.{same_or_not}
 use Rattle.open_txn.specs.Buckets.{none_touched}
 use Rattle.open_txn.specs.Endings.{EndEach}
 use Rattle.open_txn.specs.Touched.{Clears}
-use Rattle.open_txn.proofs.Places.{get_else, get_same, some_same}
+use Rattle.open_txn.proofs.Places.{get_else, get_same}
 
 not_both : (o : Option Bool) → o ≡ Some true → o ≡ Some false → ⊥
-not_both o e f = true≢false (some_same true false (sym e ∙ f))
+not_both o e f = true≢false (same_Some true false (sym e ∙ f))
 
 some_flag : (n k : ℕ) → k < n → slice_get (replicate n false) k ≡ Some false
 some_flag n k low = slice_get-get_or (replicate n false) k false (let l = length-replicate n false in omega (arith, low, l)) ∙ ap Some (same n k)
@@ -44,7 +44,7 @@ module _ (f : Cache → Cache) (Left : Cache → Cache → Type 0) (touched : Li
     clear = λ k e. ⊎_elim (λ (s : k ≡ j). cleared_at k s) (λ (o : k ≢ j). flag_else k o ∙ so_far.clear k e) (same_or_not k j);
     stays = λ k b t at flag flag'. ⊎_elim
         (λ (s : k ≡ j).
-        let off : t ≡ false = some_same t false (sym flag' ∙ cleared_at k s) in
+        let off : t ≡ false = same_Some t false (sym flag' ∙ cleared_at k s) in
         absurd (not_both (slice_get now k) (was_at k s) (so_far.clear k (flag ∙ ap Some off))))
         (λ (o : k ≢ j). else_at k o ∙ so_far.stays k b t at flag (sym (flag_else k o) ∙ flag'))
         (same_or_not k j);

@@ -1,8 +1,11 @@
 pub mod Advanced
 pub mod Ended
 pub mod Endings
+pub mod FitScans
+pub mod KeyReplies
 pub mod Numbered
 pub mod Opening
+pub mod PairsFound
 pub mod Places
 pub mod Scanned
 pub mod Standing

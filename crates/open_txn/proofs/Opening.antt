@@ -1,12 +1,14 @@
 -- The calls of a transaction on buckets that stand for a history.
-use Rattle.std.proofs.Common.{◌≡◌, ℕ, List, [], ◌++◌, slice_get, Some, Option, Result, Ok, Err, sym, ap, ◌∙◌, subst}
+use Rattle.std.proofs.Common.{◌≡◌, ℕ, List, [], ◌++◌, slice_get, Some, Result, Ok, Err, sym, ap, ◌∙◌, subst}
 use Rattle.std.specs.Prelude.{IfErr, OnOk}
 use Rattle.std.specs.List.{AllZip}
+use Rattle.std.proofs.lemmas.Option.{same_Some}
 use Rattle.fine_model.specs.declared.Call.{Call}
 use Rattle.fine_model.specs.declared.Row.{Row}
 use Rattle.fine_model.specs.declared.law.Origin.{Origin}
 use Rattle.fine_model.specs.Buckets.{Began}
 use Rattle.fine_model.specs.History.{Commit, all_rows}
+use Rattle.fine_model.specs.Store.{IsReplyTo}
 use Rattle.fine_model.proofs.Histories.Legal.{legal_map}
 use Rattle.fine_model.proofs.Histories.Stated.{shown_small}
 use Rattle.node_cache.specs.Cache.{Cache}
@@ -17,11 +19,8 @@ use Rattle.txn_draft.specs.Uses.{IsUsed}
 use Rattle.txn_draft.proofs.Lasting.{holds_law, serves_law}
 use Rattle.txn_draft.proofs.Lawful.{blank_law, taken_law}
 use Rattle.open_txn.specs.Buckets.{BucketsValue}
-use Rattle.open_txn.specs.Opened.{AnswersCalls, HasCause, HasReply, IsOpen, IsReady, IsRefusal, UseAll, TouchesOf}
+use Rattle.open_txn.specs.Opened.{AnswersCalls, HasCause, IsOpen, IsReady, IsRefusal, UseAll, TouchesOf}
 use Rattle.open_txn.specs.Steps.{Advances, IsServed, Refuses}
-
-some_same : {A : Type 0} (a b : A) → ◌≡◌ {A = Option A} (Some a) (Some b) → a ≡ b
-some_same a b e = cc
 
 module _ (tells : List Row → Type 0) (upper lane turn : ℕ) (v : BucketsValue) (d : DraftValue) (is_blank : d ≡ blank lane turn) where
   none : d.rows ≡ []
@@ -33,8 +32,8 @@ module _ (tells : List Row → Type 0) (upper lane turn : ℕ) (v : BucketsValue
 
     used : UseAll low v v d.rows
     used = record {
-      each = λ k t b is_t is_b. let same : b ≡ t = some_same b t (sym is_b ∙ is_t) in subst (λ (x : Cache). IsUsed low t x d.rows) (sym same) (rests k t is_t);
-      untouched = λ k t b is_t is_b flag. some_same b t (sym is_b ∙ is_t);
+      each = λ k t b is_t is_b. let same : b ≡ t = same_Some b t (sym is_b ∙ is_t) in subst (λ (x : Cache). IsUsed low t x d.rows) (sym same) (rests k t is_t);
+      untouched = λ k t b is_t is_b flag. same_Some b t (sym is_b ∙ is_t);
     }
 
     served : (e : ℕ) (first : List Row) → Began log e first → IsServed tells (first ++ all_rows history) v d
@@ -54,7 +53,7 @@ module _ (tells : List Row → Type 0) (upper lane turn : ℕ) (v : BucketsValue
     answers_calls = record {
       not_failed = one.not_failed;
       same = all_calls;
-      replied = subst (λ cs. AllZip HasReply cs d'.replies) (sym all_calls) (subst (AllZip HasReply calls) (sym (one.replied.behind ∙ ap (λ x. x.replies ++ one.replied.replies) is_blank)) one.replied.each);
+      replied = subst (λ cs. AllZip IsReplyTo cs d'.replies) (sym all_calls) (subst (AllZip IsReplyTo calls) (sym (one.replied.behind ∙ ap (λ x. x.replies ++ one.replied.replies) is_blank)) one.replied.each);
       fits = one.fits (subst FitsDraft (sym is_blank) (record { fit = tt; here = tt }));
     }
 

@@ -1,16 +1,13 @@
 -- Lists of which one place is set, or which are gone through from the front.
-use Rattle.std.proofs.Common.{arith, ◌≡◌, ◌≢◌, ◌⊎◌, ⊎_elim, ℕ, zero, suc, ◌+◌, ◌<◌, List, [], ◌∷◌, ◌++◌, length, take, drop, get_or, slice_get, slice_set, Some, Option, inl, inr, refl, sym, ap, ◌∙◌, subst, append_assoc}
+use Rattle.std.proofs.Common.{arith, ◌≡◌, ◌≢◌, ◌⊎◌, ⊎_elim, ℕ, zero, suc, ◌+◌, ◌<◌, List, [], ◌∷◌, ◌++◌, length, take, drop, get_or, slice_get, slice_set, Some, inl, inr, refl, sym, ap, ◌∙◌, subst, append_assoc}
 use Rattle.std.specs.List.{AllZip}
 use Rattle.std.proofs.lemmas.List.{take-append-drop, take_more}
-use Rattle.std.proofs.lemmas.Option.{slice_get-get_or}
-
-pub some_same : {A : Type 0} (a b : A) → ◌≡◌ {A = Option A} (Some a) (Some b) → a ≡ b
-some_same a b e = cc
+use Rattle.std.proofs.lemmas.Option.{same_Some, slice_get-get_or}
 
 -- an item of a list of which one place was set is what was set there, or is as before
 pub item_of_set : {A : Type 0} (xs : List A) (i j : ℕ) (x y : A) → slice_get (slice_set xs i x) j ≡ Some y → ((j ≡ i) × (y ≡ x)) ⊎ ((j ≢ i) × (slice_get xs j ≡ Some y))
 item_of_set [] i j x y is = absurd cc
-item_of_set (z ∷ xs) zero zero x y is = inl (refl, some_same y x (sym is))
+item_of_set (z ∷ xs) zero zero x y is = inl (refl, same_Some y x (sym is))
 item_of_set (z ∷ xs) zero (suc j) x y is = inr (λ e. absurd cc, is)
 item_of_set (z ∷ xs) (suc i) zero x y is = inr (λ e. absurd cc, is)
 item_of_set (z ∷ xs) (suc i) (suc j) x y is =

@@ -1,71 +1,29 @@
 -- A scan from bucket to bucket.
-use Rattle.std.proofs.Common.{◌≡◌, ⊎_elim, ℕ, ◌≤◌, true, false, List, [], ◌∷◌, ◌++◌, slice_get, slice_set, take, Some, Result, Ok, Err, sym, ap, ◌∙◌, subst, le_refl, inr, refl}
-use Rattle.std.specs.Prelude.{All, IfErr, OnOk}
-use Rattle.std.proofs.lemmas.List.{take-take}
-use Rattle.std.proofs.lemmas.List.Elements.{All-append, All-nil, All-take, filter_passes, recursion_from_All}
-use Rattle.std.proofs.lemmas.List.Sorted.{All-permutation}
+use Rattle.std.proofs.Common.{◌≡◌, ℕ, ◌+◌, ◌<◌, ◌≤◌, true, false, List, [], ◌∷◌, ◌++◌, slice_get, slice_set, Some, Result, Ok, Err, sym, ap, ◌∙◌, subst, le_refl, inr, refl}
+use Rattle.std.specs.Prelude.{IfErr, OnOk}
 use Rattle.fine_model.specs.declared.Call.{Call}
 use Rattle.fine_model.specs.declared.Call.TheVariants as call
 use Rattle.fine_model.specs.declared.FetchFault.{FetchFault}
-use Rattle.fine_model.specs.declared.Node.{Node}
-use Rattle.fine_model.specs.declared.Node.TheVariants as node
 use Rattle.fine_model.specs.declared.NodeId.{NodeId}
 use Rattle.fine_model.specs.declared.Reply.TheVariants as reply
 use Rattle.fine_model.specs.declared.Row.{Row}
-use Rattle.fine_model.specs.Map.{Pair, between}
-use Rattle.fine_model.specs.Nodes.{Content}
 use Rattle.fine_model.specs.ScanLaws.{IsKept}
-use Rattle.fine_model.specs.Store.{answer}
 use Rattle.fine_model.specs.Trees.{IsSound}
 use Rattle.fine_model.proofs.Ordered.KeptPairs.{kept_first}
-use Rattle.fine_model.proofs.Ordered.Order.{filter_all}
 use Rattle.node_cache.specs.Cache.{Cache}
-use Rattle.node_cache.specs.Given.{given}
 use Rattle.btree_nodes.specs.declared.fault.TreeFault.{TreeFault}
 use Rattle.btree_nodes.specs.declared.fault.TreeFault.TheVariants.{Source, Unfit, BucketFull, Number, NoMemory}
 use Rattle.btree_nodes.specs.Calls.{Reads, SoundReading}
 use Rattle.btree_nodes.specs.Faults.{OnFault}
-use Rattle.btree_nodes.specs.Trees.{Holds, Serves, pairs_between}
+use Rattle.btree_nodes.specs.Trees.{Holds, Serves}
 use Rattle.txn_draft.specs.Drafts.{DraftValue, FitsDraft, IsAnswered}
-use Rattle.txn_draft.specs.Scans.{IsFirst, IsGathered, KeepsFound, ScanValue}
+use Rattle.txn_draft.specs.Scans.{IsGathered, KeepsFound, ScanValue}
 use Rattle.txn_draft.specs.Uses.{IsUsed}
 use Rattle.open_txn.specs.Buckets.{BucketsValue, HoldAll, ServeAll}
-use Rattle.open_txn.specs.Opened.{HasCause, HasReply, UseAll}
-use Rattle.open_txn.specs.Steps.{Advances, Gathers, Halts, Refuses, is_inside}
+use Rattle.open_txn.specs.Opened.{HasCause, UseAll}
+use Rattle.open_txn.specs.Steps.{Advances, AreFound, Gathers, Halts, Refuses}
 use Rattle.open_txn.proofs.Advanced.{each_now, err_of, ok_of, still_served, use_one}
-
--- ---- pairs within a range
-
-module _ (low high : List ℕ) where
-  abbrev AllInside : List Pair → Type 0
-  AllInside pairs = All (λ p. is_inside low high p ≡ true) pairs
-
-  inside_between : (nodes : ℕ → Content) (head : Node) → AllInside (pairs_between nodes low high head)
-  unfolding pairs_between between
-  inside_between nodes (node.Head root next depth) = filter_passes (is_inside low high) _
-  inside_between nodes (node.Leaf pairs) = All-nil (λ p. is_inside low high p ≡ true)
-  inside_between nodes (node.Inner seps kids) = All-nil (λ p. is_inside low high p ≡ true)
-  inside_between nodes node.Broken = All-nil (λ p. is_inside low high p ≡ true)
-
-  inside_first : (limit : ℕ) (pairs first : List Pair) → IsFirst limit pairs first → AllInside pairs → AllInside first
-  inside_first limit pairs first is all =
-      subst AllInside (sym is.is) (All-take (λ p. is_inside low high p ≡ true) limit is.found (All-permutation (λ p. is_inside low high p ≡ true) pairs is.found is.sorted.permuted all))
-
-  inside_gathered : (b : Cache) (limit : ℕ) (old new : List Pair) → IsGathered b low high limit old new → AllInside old → AllInside new
-  inside_gathered b limit old new g all = ⊎_elim (λ (same : new ≡ g.longer). subst AllInside (sym same) longer) (λ (first : IsFirst limit g.longer new). inside_first limit g.longer new first longer) g.cut
-    where
-      longer : AllInside g.longer
-      longer = subst AllInside (sym g.found.behind) (All-append (λ p. is_inside low high p ≡ true) old (take limit (pairs_between (given b) low high (given b 0).0)) all
-          (All-take (λ p. is_inside low high p ≡ true) limit (pairs_between (given b) low high (given b 0).0) (inside_between (given b) (given b 0).0)))
-
-  -- what a scan found is the store's reply on a map that has these pairs alone
-  found_reply : (limit : ℕ) (pairs first : List Pair) → IsFirst limit pairs first → AllInside pairs → HasReply (call.Scan low high limit) (reply.Found first)
-  unfolding answer between
-  found_reply limit pairs first is all = (
-    first,
-    ap reply.Found (is.is ∙ sym (take-take limit limit is.found (le_refl limit)) ∙ ap (take limit) (sym is.is)
-        ∙ ap (take limit) (sym (filter_all (is_inside low high) first (recursion_from_All (λ p. is_inside low high p ≡ true) first (inside_first limit pairs first is all))))),
-  )
+use Rattle.open_txn.proofs.PairsFound.{found_gathered, found_none, found_reply}
 
 -- ---- why a bucket could not be gone through
 
@@ -98,9 +56,9 @@ module _ (tells tells' : List Row → Type 0) (upper k : ℕ) (v v' : BucketsVal
   others_hold : (rows log : List Row) → HoldAll rows log v → Holds b' rows log → HoldAll rows log v'
   others_hold rows log all here = each_now k v v' b b' there buckets flags (λ j y. Holds y rows log) here (λ j y ne is. all j y is)
 
-  pub gathered_in : (done : Unit {0}) → r ≡ Ok done → IsGathered b' low high limit s.pairs s'.pairs → Gathers tells tells' upper v v' low high limit s s'
-  gathered_in done ok g = record {
-    inside = inside_gathered low high b' limit s.pairs s'.pairs g;
+  pub gathered_in : (done : Unit {0}) → r ≡ Ok done → b'.bucket ≡ s.next → s.next < 256 → s'.next ≡ s.next + 1 → IsGathered b' low high limit s.pairs s'.pairs → Gathers tells tells' upper v v' low high limit s s'
+  gathered_in done ok here within next g = record {
+    found = λ was. subst (λ (n : ℕ). AreFound low high n s'.pairs) (sym next) (found_gathered low high b' limit s.next s.pairs s'.pairs here within g was);
     uses = uses;
     serves = λ rows all. each_now k v v' b b' there buckets flags (λ j y. Serves tells' y rows) (serves rows (all k b there)) (λ j y ne is. still_served tells tells' y rows later (all j y is));
     holds = λ rows log served all fine. others_hold rows log all (now rows log served all fine).1;
@@ -123,9 +81,10 @@ module _ (tells tells' : List Row → Type 0) (upper k : ℕ) (v v' : BucketsVal
       now rows log served all fine = subst (λ (x : Result (Unit {0}) TreeFault). SoundReading rows log b' (λ (done : Unit {0}). IsKept (rows ++ log) low high limit s.next s.pairs → IsKept (rows ++ log) low high limit s'.next s'.pairs) x) err
           (sound rows log (served k b there) (all k b there) fine)
 
-  pub gathers_in : (F : FetchFault → Type 0) (U : NodeId → Type 0) → Reads (λ (done : Unit {0}). IsGathered b' low high limit s.pairs s'.pairs) F U r → OnOk r (Gathers tells tells' upper v v' low high limit s s')
-  gathers_in F U reads = ok_of (Gathers tells tells' upper v v' low high limit s s') r
-      (λ done ok. gathered_in done ok (subst (λ (x : Result (Unit {0}) TreeFault). Reads (λ (done : Unit {0}). IsGathered b' low high limit s.pairs s'.pairs) F U x) ok reads))
+  pub gathers_in : (F : FetchFault → Type 0) (U : NodeId → Type 0) → b'.bucket ≡ s.next → s.next < 256 → OnOk r (s'.next ≡ s.next + 1) → Reads (λ (done : Unit {0}). IsGathered b' low high limit s.pairs s'.pairs) F U r
+      → OnOk r (Gathers tells tells' upper v v' low high limit s s')
+  gathers_in F U here within next reads = ok_of (Gathers tells tells' upper v v' low high limit s s') r
+      (λ done ok. gathered_in done ok here within (subst (λ (x : Result (Unit {0}) TreeFault). OnOk x (s'.next ≡ s.next + 1)) ok next) (subst (λ (x : Result (Unit {0}) TreeFault). Reads (λ (done : Unit {0}). IsGathered b' low high limit s.pairs s'.pairs) F U x) ok reads))
 
   pub halts_in : IfErr r (Halts tells upper v v')
   halts_in = err_of (Halts tells upper v v') r halted_in
@@ -134,7 +93,7 @@ module _ (tells tells' : List Row → Type 0) (upper k : ℕ) (v v' : BucketsVal
 
 pub gathers_none : (tells : List Row → Type 0) (upper : ℕ) (v : BucketsValue) (low high : List ℕ) (limit : ℕ) (s : ScanValue) → Gathers tells tells upper v v low high limit s s
 gathers_none tells upper v low high limit s = record {
-  inside = λ all. all;
+  found = λ was. was;
   uses = λ least taken rows all most. all;
   serves = λ rows all. all;
   holds = λ rows log served all fine. all;
@@ -144,7 +103,7 @@ gathers_none tells upper v low high limit s = record {
 module _ (tells mid : List Row → Type 0) (upper upper' : ℕ) (same : upper' ≡ upper) (a b : BucketsValue) (low high : List ℕ) (limit : ℕ) (s s' : ScanValue) (one : Gathers tells mid upper a b low high limit s s') where
   pub gathers_on : (tells' : List Row → Type 0) (c : BucketsValue) (s'' : ScanValue) → Gathers mid tells' upper' b c low high limit s' s'' → Gathers tells tells' upper a c low high limit s s''
   gathers_on tells' c s'' two = record {
-    inside = λ all. two.inside (one.inside all);
+    found = λ was. two.found (one.found was);
     uses = λ least taken rows all most. two.uses least taken rows (one.uses least taken rows all most) (subst (λ (n : ℕ). least ≤ n) (sym same) most);
     serves = λ rows all. two.serves rows (one.serves rows all);
     holds = λ rows log served all fine. two.holds rows log (one.serves rows served) (one.holds rows log served all fine) fine;
@@ -169,7 +128,7 @@ module _ (tells tells' : List Row → Type 0) (upper : ℕ) (v v' : BucketsValue
     replied = record {
       replies = reply.Found keeps.first ∷ [];
       behind = ap (λ x. x.replies) keeps.is;
-      each = (found_reply low high limit s.pairs keeps.first keeps.is_first (g.inside (All-nil (λ p. is_inside low high p ≡ true))), tt);
+      each = (found_reply low high limit 256 (le_refl 256) s.pairs keeps.first keeps.is_first (subst (λ (n : ℕ). AreFound low high n s.pairs) next (g.found (found_none low high))), tt);
     };
     fits = fits;
     uses = λ least taken all most. subst (UseAll least taken v') (sym rows_same) (g.uses least taken d.rows all most);

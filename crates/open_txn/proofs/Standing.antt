@@ -5,7 +5,7 @@ use Rattle.std.specs.List.{range_with_len}
 use Rattle.std.specs.Map.{lookup}
 use Rattle.std.proofs.lemmas.List.{length-map, length-replicate}
 use Rattle.std.proofs.lemmas.List.FromFn.{get_or-map-range_with_len, length-range_with_len}
-use Rattle.std.proofs.lemmas.Option.{get_or_from_slice_get, slice_get_within}
+use Rattle.std.proofs.lemmas.Option.{get_or_from_slice_get, same_Some, slice_get_within}
 use Rattle.fine_model.specs.declared.law.Origin.{Origin}
 use Rattle.fine_model.specs.History.{Commit, all_rows}
 use Rattle.node_cache.specs.declared.cached.Cached.{Cached}
@@ -79,9 +79,6 @@ record WasAt (f : Cache → Cache) (v : BucketsValue) (k : ℕ) (y : Cache) : Ty
   is_t : slice_get v.touched k ≡ Some t
   is_y : y ≡ (if t then f b else b)
 
-some_same : {A : Type 0} (a b : A) → ◌≡◌ {A = Option A} (Some a) (Some b) → a ≡ b
-some_same a b e = cc
-
 module _ (f : Cache → Cache) (Left : Cache → Cache → Type 0) (v v' : BucketsValue) (whole : AreBuckets v) (ended : EndEach f Left v.touched v.buckets v'.buckets) (flags : v'.touched ≡ none_touched) where
   was_at : (k : ℕ) (y : Cache) → slice_get v'.buckets k ≡ Some y → WasAt f v k y
   was_at k y is =
@@ -91,7 +88,7 @@ module _ (f : Cache → Cache) (Left : Cache → Cache → Type 0) (v v' : Bucke
         t = t.0;
         is_b = b.1;
         is_t = t.1;
-        is_y = some_same y (if t.0 then f b.0 else b.0) (sym is ∙ ended.each k b.0 t.0 b.1 t.1);
+        is_y = same_Some y (if t.0 then f b.0 else b.0) (sym is ∙ ended.each k b.0 t.0 b.1 t.1);
       }
 
   many_now : length v'.buckets ≡ 256

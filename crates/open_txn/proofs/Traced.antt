@@ -3,6 +3,7 @@ use Rattle.std.proofs.Common.{◌≡◌, ◌≢◌, ◌⊎◌, ℕ, ◌<◌, tru
 use Rattle.std.specs.Prelude.{◌==◌, IfErr, OnOk}
 use Rattle.std.specs.List.{AllByRecursion}
 use Rattle.std.proofs.lemmas.List.Elements.{filter-append}
+use Rattle.std.proofs.lemmas.Option.{same_Some}
 use Rattle.fine_model.specs.declared.Call.{Call}
 use Rattle.fine_model.specs.declared.Call.TheVariants as call
 use Rattle.fine_model.specs.declared.FetchFault.{FetchFault}
@@ -25,7 +26,7 @@ use Rattle.txn_draft.specs.Drafts.{DraftValue, is_scan}
 use Rattle.open_txn.specs.Buckets.{AreBuckets, BucketsValue, EachPair}
 use Rattle.open_txn.specs.Traces.{AddsDone, AllDone, Changes, DoAll, Does, IsCutOff, IsRefused, OnUnfit, Refused, Scans, StopsAt, rows_in}
 use Rattle.open_txn.proofs.Advanced.{err_of, ok_of}
-use Rattle.open_txn.proofs.Places.{get_else, get_same, some_same}
+use Rattle.open_txn.proofs.Places.{get_else, get_same}
 
 -- ---- a source some loads later
 
@@ -99,7 +100,7 @@ pairs_set P v v' k b b' there are here others j y is = by (same_or_not j k)
     by (inl e) = (
       b',
       ap (λ l. slice_get l j) are ∙ ap (slice_get (slice_set v.buckets k b')) e ∙ get_same v.buckets k b b' there,
-      subst (λ (x : Cache). P j x b') (some_same b y (sym there ∙ ap (slice_get v.buckets) (sym e) ∙ is)) (subst (λ (n : ℕ). P n b b') (sym e) here),
+      subst (λ (x : Cache). P j x b') (same_Some b y (sym there ∙ ap (slice_get v.buckets) (sym e) ∙ is)) (subst (λ (n : ℕ). P n b b') (sym e) here),
     )
     by (inr ne) = (y, ap (λ l. slice_get l j) are ∙ get_else v.buckets k j b' ne ∙ is, others j y ne is)
 

@@ -2,16 +2,14 @@
 use Rattle.std.specs.Prelude.{◌≡◌, ℕ, ◌≤◌, Bool, false, if◌then◌else◌, List, [], ◌∷◌, ◌++◌, slice_get, All, Option, Some, Err, ◌⊎◌, true}
 use Rattle.std.specs.List.{AllZip, list_any}
 use Rattle.fine_model.specs.declared.Call.{Call}
-use Rattle.fine_model.specs.declared.Reply.{Reply}
 use Rattle.fine_model.specs.declared.Row.{Row}
 use Rattle.fine_model.specs.declared.Why.TheVariants as why
 use Rattle.fine_model.specs.declared.law.Origin.{Origin}
 use Rattle.fine_model.specs.Buckets.{Began}
 use Rattle.fine_model.specs.History.{Commit, IsLegal, IsNext, all_rows, upto}
-use Rattle.fine_model.specs.Map.{Pair}
 use Rattle.fine_model.specs.Nodes.{Agrees}
 use Rattle.fine_model.specs.Pushed.{all_pushed}
-use Rattle.fine_model.specs.Store.{answer}
+use Rattle.fine_model.specs.Store.{IsReplyTo}
 use Rattle.node_cache.specs.declared.cached.Cached.{Cached}
 use Rattle.node_cache.specs.Cache.{Cache}
 use Rattle.btree_nodes.specs.declared.fault.TreeFault.{TreeFault}
@@ -88,15 +86,11 @@ pub record IsRefusal (log : Origin) (low : ℕ) (history : List Commit) (taken n
 abbrev pub TouchesOf : List Call → BucketsValue → BucketsValue → Type 0
 TouchesOf calls old new = (k : ℕ) → slice_get new.touched k ≡ Some true → (slice_get old.touched k ≡ Some true) ⊎ (list_any (is_here k) calls ≡ true)
 
--- a reply that the store has to a call on some map
-abbrev pub HasReply : Call → Reply → Type 0
-HasReply c r = (pairs : List Pair) × (r ≡ (answer pairs c).0)
-
--- what a draft keeps of calls that were all answered, on every disk
+-- What a draft keeps of calls that were all answered, on every disk: each reply is that of the store on some map, whose keys ascend.
 pub record AnswersCalls (calls : List Call) (d : DraftValue) : Type 0 where
   pub not_failed : d.failed ≡ false
   pub same : d.calls ≡ calls
-  pub replied : AllZip HasReply d.calls d.replies
+  pub replied : AllZip IsReplyTo d.calls d.replies
   pub fits : FitsDraft d
 
 -- ---- its end

@@ -100,8 +100,8 @@ fn answer_each<S: NodeSource>(
 }
 
 /// Answers all calls of a transaction in order, each in the bucket of its key, a scan in all of them. The draft then has the calls with their replies and
-/// rows [`answered`]; no bucket is touched but those of the calls [`touches`]. Where the buckets stood for a history which the source tells, they hold it
-/// with these rows [`open`].
+/// rows; on every disk each reply is the store's on some map, so that a scan's pairs ascend in its range, up to its limit [`answered`]. No bucket is touched
+/// but those of the calls [`touches`]. Where the buckets stood for a history which the source tells, they hold it with these rows [`open`].
 ///
 /// On every disk, each call did in each bucket what it does there: it loaded nodes on its way, each as the source finds it, and pushed its rows on what the bucket then
 /// gave [`done`].

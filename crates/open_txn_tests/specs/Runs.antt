@@ -8,7 +8,7 @@ use Rattle.fine_model.specs.History.{Commit, IsLegal}
 use Rattle.btree_nodes.specs.declared.fault.TreeFault.{TreeFault}
 use Rattle.open_txn.specs.Buckets.{BucketsValue, StandAll}
 use Rattle.open_txn.specs.Opened.{Follows}
-use Rattle.txn_draft_tests.specs.Committed.{IfCommitted, longer}
+use Rattle.open_txn_tests.specs.Committed.{IfCommitted, longer}
 
 -- the buckets stand for the history with what was committed, and this may follow on the history
 pub record IsRun (log : Origin) (published epoch : ℕ) (v : BucketsValue) (history : List Commit) (r : Result (Option Entry) TreeFault) : Type 0 where

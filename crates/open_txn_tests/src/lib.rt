@@ -1,4 +1,4 @@
-//! The tests of `open_txn`. They stand in a crate of their own, since a crate with tests is proved once more with them.
+//! The tests of `txn_draft` and `open_txn`. They stand in a crate of their own, since a crate with tests is proved once more with them.
 #![tactic(auto)]
 
 #[cfg(test)]

@@ -1,3 +1,6 @@
-//! Tests of open transactions.
+//! Tests of drafts and of open transactions.
 
+mod calls;
+mod once;
 mod run;
+mod twice;

@@ -6,6 +6,7 @@ ghost use Rattle.open_txn_tests.specs.Cited.{Commit, FitsCall, FitsKey, Origin, 
 ghost use Rattle.open_txn.specs.Opened.{IsReady};
 ghost use Rattle.open_txn_tests.specs.Runs.{IsRun};
 
+use crate::tests::calls::{put, text};
 use btree_nodes::TreeFault;
 use btree_nodes_tests::rows::Rows;
 use fine_model::{Call, Entry, Reply};
@@ -14,7 +15,6 @@ use open_txn::{Buckets, answer_all};
 use std::alloc::{AllocError, Global};
 use std::test::*;
 use txn_draft::Draft;
-use txn_draft_tests::calls::{put, text};
 
 /// Answers calls, and commits them under an epoch or takes them back. The buckets stand for the history with what was committed.
 fn run_calls<S: NodeSource>(

@@ -34,7 +34,7 @@ returns g c =
       place = place_of c.args.draft.now c.answer.new.self c.args.call.now c.answer.result c.answer.ensures.kept c.answer.ensures.left;
       advances = rw (← c.buckets.view_is)
           (advances_in _ _ _ at _ _ b c.answer.new.bucket c.args.draft.now c.answer.new.self c.args.call.now c.buckets.invariant there refl c.add.ensures c.requires.at.0
-          later c.answer.result c.answer.ensures.used c.answer.ensures.sound _ _ c.requires.open c.answer.ensures.kept c.answer.ensures.change c.answer.ensures.fits c.answer.ensures.serves);
+          later c.answer.result c.answer.ensures.used c.answer.ensures.sound _ _ c.requires.no_scan c.requires.open c.answer.ensures.kept c.answer.ensures.change c.answer.ensures.fits c.answer.ensures.serves);
       refuses = rw (← c.buckets.view_is)
           (refuses_in _ _ _ at _ _ b c.answer.new.bucket c.args.draft.now c.answer.new.self c.args.call.now c.buckets.invariant there refl c.add.ensures c.requires.at.0
           later c.answer.result c.answer.ensures.used c.answer.ensures.sound);

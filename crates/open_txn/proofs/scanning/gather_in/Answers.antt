@@ -26,6 +26,7 @@ returns g c =
     let old : BucketsValue = record { buckets = c.buckets.inside.buckets.items; touched = c.buckets.inside.touched } in
     let new : BucketsValue = record { buckets = slice_set old.buckets at c.gather.new.bucket; touched = c.add.new.self } in
     let later = λ (rows : List Row). g.met.S.NodeSource.later_tells _ _ rows c.gather.ensures.later in
+    let here : c.gather.new.bucket.bucket ≡ c.args.scan.now.next = c.gather.ensures.loads.bucket ∙ c.buckets.invariant.numbered at b there ∙ sym c.requires.next in
     record {
       later = c.gather.ensures.later;
       clean = c.gather.ensures.clean;
@@ -33,7 +34,8 @@ returns g c =
       next = subst (λ (n : ℕ). OnOk c.gather.result (c.gather.new.self.next ≡ n + 1)) c.requires.next c.gather.ensures.next;
       gathers = rw (← c.buckets.view_is)
           (gathers_in _ _ _ at _ _ b c.gather.new.bucket there refl c.add.ensures later c.args.low.now c.args.high.now c.args.limit
-          c.args.scan.now c.gather.new.self c.gather.result c.gather.ensures.used c.gather.ensures.serves c.gather.ensures.sound _ (IsFirstUnfitBetween c.gather.new.bucket c.args.low.now c.args.high.now c.args.limit) c.gather.ensures.answer);
+          c.args.scan.now c.gather.new.self c.gather.result c.gather.ensures.used c.gather.ensures.serves c.gather.ensures.sound _ (IsFirstUnfitBetween c.gather.new.bucket c.args.low.now c.args.high.now c.args.limit)
+          here (subst (λ (n : ℕ). n < 256) (sym c.requires.next) c.requires.at) c.gather.ensures.next c.gather.ensures.answer);
       halts = rw (← c.buckets.view_is)
           (halts_in _ _ _ at _ _ b c.gather.new.bucket there refl c.add.ensures later c.args.low.now c.args.high.now c.args.limit
           c.args.scan.now c.gather.new.self c.gather.result c.gather.ensures.used c.gather.ensures.serves c.gather.ensures.sound);

@@ -2,7 +2,7 @@ use Rattle.std.proofs.Common.{ap, le_refl, refl, subst, sym}
 use Rattle.fine_model.specs.declared.Entry.{Entry}
 use Rattle.open_txn.specs.Opened.{Follows}
 use Rattle.open_txn.proofs.Ended.{abort_law, follows_law}
-use Rattle.txn_draft_tests.specs.Committed.{commit_of}
+use Rattle.open_txn_tests.specs.Committed.{commit_of}
 use Rattle.open_txn_tests.proofs.tests.run.run_calls.Goals as goal
 
 pub returns-then-commits : goal.returns-then-commits

@@ -14,8 +14,8 @@ use Rattle.txn_draft.specs.Answers.{AnswersSoundly}
 use Rattle.txn_draft.specs.Drafts.{DraftValue, IsAnswered, blank, entry_of}
 use Rattle.txn_draft.specs.Standing.{IsLeft, StandsFor}
 use Rattle.txn_draft.specs.Uses.{IsUsed, UsedAfter}
-use Rattle.txn_draft_tests.specs.Committed.{commit_of}
-use Rattle.txn_draft_tests.specs.Once.{IsReady, IsRun}
+use Rattle.open_txn_tests.specs.Committed.{commit_of}
+use Rattle.open_txn_tests.specs.Once.{IsReady, IsRun}
 use Rattle.txn_draft.proofs.Lasting.{holds_law, serves_law, settle_law, undo_law}
 use Rattle.txn_draft.proofs.Lawful.{blank_law, next_law, taken_law}
 use Rattle.txn_draft.proofs.Undoing.{restored, undone}

@@ -7,11 +7,11 @@ use Rattle.btree_nodes.specs.Trees.{Holds, Serves}
 use Rattle.txn_draft.specs.Answers.{AnswersSoundly}
 use Rattle.txn_draft.specs.Drafts.{IsAnswered, blank}
 use Rattle.txn_draft.specs.Uses.{IsUsed}
-use Rattle.txn_draft_tests.specs.Twice.{AnsweredOr}
+use Rattle.open_txn_tests.specs.Twice.{AnsweredOr}
 use Rattle.txn_draft.proofs.Undoing.{restored}
-use Rattle.txn_draft_tests.proofs.Taken.{answered_or, serves_settled}
+use Rattle.open_txn_tests.proofs.Taken.{answered_or, serves_settled}
 use Rattle.txn_draft.proofs.Lawful.{blank_law, taken_law}
-use Rattle.txn_draft_tests.proofs.tests.twice.commit_and_abort.Goals as goal
+use Rattle.open_txn_tests.proofs.tests.twice.commit_and_abort.Goals as goal
 
 pub answer-answer-requires-clause-bucket : goal.answer-answer-requires-clause-bucket
 answer-answer-requires-clause-bucket g c = c.settle.ensures.number ∙ c.in_ok-answer.ensures.number ∙ c.requires.same

@@ -1,10 +1,10 @@
 //! One transaction on a bucket that stands for a history.
 
 ghost use Rattle.std.specs.Prelude.{◌≡◌, ◌≤◌, ℕ, List, false};
-ghost use Rattle.txn_draft_tests.specs.Cited.{Commit, FitsCall, Origin, blank, bucket_of, is_scan, key_of};
-ghost use Rattle.txn_draft_tests.specs.Once.{IsReady, IsRun};
+ghost use Rattle.open_txn_tests.specs.Cited.{Commit, FitsCall, Origin, blank, bucket_of, is_scan, key_of};
+ghost use Rattle.open_txn_tests.specs.Once.{IsReady, IsRun};
 
-use crate::calls::put;
+use crate::tests::calls::put;
 use btree_nodes::TreeFault;
 use btree_nodes_tests::rows::Rows;
 use fine_model::{Call, Entry, Reply, bucket_of};

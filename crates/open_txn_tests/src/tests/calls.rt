@@ -1,10 +1,7 @@
 //! Calls of transactions.
 
 ghost use Rattle.std.specs.Prelude.{◌≡◌, false, IfOk};
-ghost use Rattle.fine_model.specs.Bounds.{FitsCall};
-ghost use Rattle.fine_model.specs.Pushed.{key_of};
-ghost use Rattle.fine_model.specs.RowBytes.{FitsKey, FitsValue};
-ghost use Rattle.txn_draft.specs.Drafts.{is_scan};
+ghost use Rattle.open_txn_tests.specs.Cited.{FitsCall, FitsKey, FitsValue, is_scan, key_of};
 
 use fine_model::{Bytes, Call};
 use std::alloc::{AllocError, Global};

@@ -15,7 +15,7 @@ use Rattle.btree_nodes.specs.Trees.{Serves, Holds, node_at}
 use Rattle.btree_nodes.proofs.Loads.{none_or_some}
 use Rattle.txn_draft.specs.Answers.{AnswersSoundly}
 use Rattle.txn_draft.specs.Drafts.{DraftValue, IsAnswered}
-use Rattle.txn_draft_tests.specs.Twice.{AnsweredOr}
+use Rattle.open_txn_tests.specs.Twice.{AnsweredOr}
 use Rattle.txn_draft.specs.Uses.{IsUsed}
 
 -- with Ok the draft is answered

@@ -1,10 +1,10 @@
 //! Two transactions on one bucket: one commits, and then one is taken back, while the source tells neither of them.
 
 ghost use Rattle.std.specs.Prelude.{◌≡◌, ◌<◌, ℕ, [], false, List, IfOk, IfSome};
-ghost use Rattle.txn_draft_tests.specs.Cited.{AreSmall, FitsCall, Holds, IsResting, IsSound, Row as ModelRow, Serves, blank, bucket_of, cached, is_scan, key_of};
-ghost use Rattle.txn_draft_tests.specs.Twice.{IsTwice};
+ghost use Rattle.open_txn_tests.specs.Cited.{AreSmall, FitsCall, Holds, IsResting, IsSound, Row as ModelRow, Serves, blank, bucket_of, cached, is_scan, key_of};
+ghost use Rattle.open_txn_tests.specs.Twice.{IsTwice};
 
-use crate::calls::put;
+use crate::tests::calls::put;
 use btree_nodes::TreeFault;
 use btree_nodes_tests::rows::Rows;
 use fine_model::{Call, Entry, Reply, bucket_of};

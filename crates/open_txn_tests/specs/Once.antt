@@ -10,7 +10,7 @@ use Rattle.fine_model.specs.Nodes.{Agrees}
 use Rattle.node_cache.specs.Cache.{Cache}
 use Rattle.btree_nodes.specs.declared.fault.TreeFault.{TreeFault}
 use Rattle.txn_draft.specs.Standing.{StandsFor}
-use Rattle.txn_draft_tests.specs.Committed.{IfCommitted, longer}
+use Rattle.open_txn_tests.specs.Committed.{IfCommitted, longer}
 
 -- a history is legal on some rows, and a source tells rows that agree with it up to an epoch
 pub record TellsHistory (tells : List Row → Type 0) (upper : ℕ) (first : List Row) (history : List Commit) : Type 0 where

@@ -1,5 +1,5 @@
-use Rattle.txn_draft_tests.proofs.Ended.{run_settled, stands_undone}
-use Rattle.txn_draft_tests.proofs.tests.once.run_once.Goals as goal
+use Rattle.open_txn_tests.proofs.Ended.{run_settled, stands_undone}
+use Rattle.open_txn_tests.proofs.tests.once.run_once.Goals as goal
 
 pub returns-then-commits : goal.returns-then-commits
 returns-then-commits g c = record {

@@ -1,4 +1,0 @@
-pub mod Cited
-pub mod Committed
-pub mod Once
-pub mod Twice

@@ -1,4 +1,0 @@
-//! Tests of drafts.
-
-mod once;
-mod twice;

@@ -12,7 +12,7 @@ use Rattle.fine_model.specs.declared.RunFault.{RunFault}
 use Rattle.fine_model.specs.declared.RunFault.TheVariants as run_fault
 use Rattle.fine_model.specs.declared.ScriptTxn.{ScriptTxn}
 use Rattle.fine_model.specs.Chain.{chain}
-use Rattle.fine_model.specs.Damages.{HasNoChain, IsDamageIn, IsDurableFor, Reports, RunDamagedTheorem, Running}
+use Rattle.fine_model.specs.Damages.{HasNoChain, IsDurableFor, Reports, RunDamagedTheorem, Running}
 use Rattle.fine_model.specs.Headline.{HasStatus, IsFrontOf, OneOf, Return, TellsFaults}
 use Rattle.fine_model.specs.Outcomes.{is_refused}
 use Rattle.fine_model.specs.Report.{damage_line, reason_bytes, report}
@@ -34,7 +34,7 @@ module _ (options : Options) (source output : ℕ × ℕ) (left : Option (List �
     script = script_of bytes
 
     abbrev running : Running
-    running = record { script = script; reads_all = ⊥; statuses = 0 ∷ 1 ∷ 3 ∷ 4 ∷ 5 ∷ 6 ∷ 7 ∷ 8 ∷ []; prints = Reports script }
+    running = record { script = script; statuses = 0 ∷ 1 ∷ 3 ∷ 4 ∷ 5 ∷ 6 ∷ 7 ∷ 8 ∷ []; prints = Reports script }
 
     abbrev Said : ℕ → List ℕ → Type 0
     Said = Says running old.region_len before.bytes back
@@ -77,10 +77,6 @@ module _ (options : Options) (source output : ℕ × ℕ) (left : Option (List �
         printed = refl;
       }
 
-      named : (what : Damage) → r.fault ≡ Some (run_fault.Damaged what) → IsDamageIn script ⊥ x.history old.region_len before.bytes x.found.parts what
-      named what fault =
-          subst (λ (s : Result (List ScriptTxn) Refusal). IsDamageIn s ⊥ x.history old.region_len before.bytes x.found.parts what) (sym (may bytes left_is)) (x.damage what before x.found.parts fault old_is chained)
-
       ran_says : (f : Option RunFault) → r.fault ≡ f → Said (run_status r.outcomes f) (report its r)
       ran_says None fault =
           done_says running old.region_len before.bytes back (report its r) (list_any is_refused r.outcomes) (inl refl) (inr (inr (inr (inr (inr (inr (inr (inl refl))))))))
@@ -92,7 +88,7 @@ module _ (options : Options) (source output : ℕ × ℕ) (left : Option (List �
           (inr (x.found.parts, x.history, chained, reports (Some run_fault.Disk) fault 6 refl))
       ran_says (Some (run_fault.Damaged what)) fault =
           damaged_says running old.region_len before.bytes back (report its r) (inr (inr (inr (inr (inr (inr (inl refl)))))))
-          (what, x.unsound what fault before old_is, inr (x.found.parts, x.history, chained, named what fault, inr (reports (Some (run_fault.Damaged what)) fault 7 refl)))
+          (what, x.unsound what fault before old_is, inr (x.found.parts, x.history, chained, x.placed what fault, inr (reports (Some (run_fault.Damaged what)) fault 7 refl)))
 
     -- ---- any end
 

@@ -1,16 +1,13 @@
 -- What a generated run and its reading were, between two states of the disk.
-use Rattle.std.proofs.Common.{◌≡◌, ◌⊎◌, inl, inr, ⊎_elim, ℕ, zero, suc, ◌+◌, ◌<◌, ◌≤◌, ◌==◌, Bool, true, false, cond, List, [], ◌++◌, length, refl, sym, ap, ◌∙◌, subst, Option, Some, None, Result, Ok, Err, arith, append-nil}
-use Rattle.std.specs.Prelude.{option_map}
+use Rattle.std.proofs.Common.{◌≡◌, ◌⊎◌, inl, inr, ℕ, zero, suc, ◌+◌, ◌<◌, ◌≤◌, ◌==◌, Bool, true, false, cond, List, ◌++◌, length, refl, sym, ap, ◌∙◌, subst, Option, Some, None, Result, Ok, Err, arith, append-nil}
 use Rattle.std.specs.List.{list_all, list_any}
 use Rattle.std.proofs.Math.Nat.{min-le_left}
-use Rattle.log_disk.specs.Disk.{BothTold, Disk, Eye, HasRisen, Told}
+use Rattle.log_disk.specs.Disk.{BothTold, Disk, HasRisen, Told}
 use Rattle.log_disk.specs.Moments.{Continues, ContinuesOn}
 use Rattle.fine_model.specs.declared.Damage.{Damage}
 use Rattle.fine_model.specs.declared.Damage.TheVariants as damage_of
-use Rattle.fine_model.specs.declared.NodeId.{NodeId}
 use Rattle.fine_model.specs.declared.Options.{Options}
 use Rattle.fine_model.specs.declared.Outcome.{Outcome}
-use Rattle.fine_model.specs.declared.Part.{Part}
 use Rattle.fine_model.specs.declared.Reason.TheVariants as reason
 use Rattle.fine_model.specs.declared.Row.{Row}
 use Rattle.fine_model.specs.declared.RunFault.{RunFault}
@@ -19,10 +16,9 @@ use Rattle.fine_model.specs.declared.Ran.{Ran}
 use Rattle.fine_model.specs.declared.ScriptTxn.{ScriptTxn}
 use Rattle.fine_model.specs.declared.law.RoomState.{RoomState}
 use Rattle.fine_model.specs.Boards.{is_empty}
-use Rattle.fine_model.specs.Buckets.{Began}
-use Rattle.fine_model.specs.Chain.{Shows, chain as chain_in}
+use Rattle.fine_model.specs.Chain.{Shows}
 use Rattle.fine_model.specs.Commands.{are_durable, summary}
-use Rattle.fine_model.specs.Damages.{HasBadPlace, IsDamageIn, MeetsUnfit as RunMeets}
+use Rattle.fine_model.specs.Damages.{IsPlaceOrNode}
 use Rattle.fine_model.specs.Faults.{last_count}
 use Rattle.fine_model.specs.Generator.{next_state, txns_from}
 use Rattle.fine_model.specs.Headline.{HasStatus}
@@ -30,46 +26,43 @@ use Rattle.fine_model.specs.History.{Commit, all_rows, last_epoch, map_at}
 use Rattle.fine_model.specs.Map.{Pair}
 use Rattle.fine_model.specs.Nodes.{Agrees}
 use Rattle.fine_model.specs.Outcomes.{is_refused}
-use Rattle.fine_model.specs.Regions.{Image}
 use Rattle.fine_model.specs.Report.{all_outcomes, fault_lines, reason_bytes}
-use Rattle.fine_model.specs.Script.{Refusal}
 use Rattle.fine_model.specs.Trees.{IsSound, map_of}
 use Rattle.fine_model.proofs.Histories.HistoryLaws.{upto-last}
 use Rattle.fine_model.proofs.Histories.Legal.{legal_map}
 use Rattle.fine_model.proofs.Trees.TreeLaws.{IsSound-Agrees, map_of-Agrees}
-use Rattle.epoch_room.specs.Meaning.{Stands, StandsTold, origin_of}
+use Rattle.epoch_room.specs.Meaning.{Stands, StandsTold}
 use Rattle.epoch_room.specs.Value.{RoomValue, made}
 use Rattle.epoch_room.specs.Whole.{IsWhole}
 use Rattle.log_commands.specs.Ends.{fault_status}
 use Rattle.log_commands.specs.Found.{FindsChain}
-use Rattle.map_reader.specs.Maps.{AnswersMap, AnswersRows, IsNamed, LooksOn, ReadsMap, finds_by, tells_room}
-use Rattle.map_reader.specs.Reading.{MeetsUnfit, behind_keys, most_pairs}
+use Rattle.log_commands.specs.Maps.{AnswersMap, AnswersRows, IsNamed, ReadsMap, tells_room}
 use Rattle.reopen.specs.declared.chain.Chain.{Chain}
 use Rattle.reopen.specs.Opening.{SeesChain}
 use Rattle.room_shelf.specs.Shelves.{IsCountOf}
 use Rattle.room_shelf.proofs.Loading.{log_law}
 use Rattle.run_laws.proofs.Runs.{told_of}
 use Rattle.run_laws.proofs.NoEyes.{no_eyes}
-use Rattle.txn_runner.specs.Left.{IsLeftTo, ScansUnfit}
-use Rattle.txn_runner.proofs.Left.{blames, scans}
 use Rattle.fine_top.specs.Generating.{CountsRun, counted, counted_text, early, Ends, EndsGenerated, IsCounted, LacksMemory, Numbers, OpensGen, PrintsCounted, ReadsEnd, default_options, numbers, script_by, text_of}
 use Rattle.fine_top.specs.declared.opening.Opened.{Opened}
 use Rattle.fine_top.specs.Opened.{IsUnsoundLog}
 use Rattle.fine_top.specs.Running.{IsRunBehind, IsRunOf, IsRunOn, LeavesBeside, RunsFrom, run_status}
 use Rattle.script_text.specs.Streams.{Puts}
-use Rattle.fine_top.proofs.Durable.{all_durable, none_waits}
-use Rattle.fine_top.proofs.Between.{behind_of, on_from, ready, run_from}
+use Rattle.fine_top.proofs.Durable.{all_durable}
+use Rattle.fine_top.proofs.Between.{began, behind_of, on_from, run_from, stood}
+use Rattle.fine_top.proofs.Entries.{risen_same, tells_same}
 
 -- a run without a fault stays one of the log, whatever calls fail behind it: nothing of it depends on the counts then
 pub on_read : (old mid new : Disk) (before after : Told) (script : List ScriptTxn) (ran : Ran) (history : List Commit) (e : ℕ) (rows : List Row) → ran.fault ≡ None → IsRunOn default_options old mid before after script ran history e rows
     → IsRunOn default_options old new before after script ran history e rows
 on_read old mid new before after script ran history e rows none on = record {
-  run = λ source output. let r = on.run source output in record { run = r.run; caused = r.caused; few_each = r.few_each; failed = λ fault is. absurd (not_both fault is); all_run = r.all_run; all_durable = r.all_durable };
+  run = λ source output. let r = on.run source output in record { run = r.run; caused = r.caused; few_each = r.few_each; last_need = r.last_need; failed = λ fault is. absurd (not_both fault is); all_run = r.all_run; all_durable = r.all_durable };
   done = λ source output status has one. let d = on.done source output status has one in record {
     all_run = d.all_run;
     all_durable = λ not. (on.run source output).all_durable none;
     one_each = λ six. absurd (not_six status (subst (HasStatus status (all_outcomes script ran.outcomes)) none has) six);
   };
+  in_need = on.in_need;
 }
   where
     not_both : (fault : RunFault) → ran.fault ≡ Some fault → ⊥
@@ -82,24 +75,6 @@ on_read old mid new before after script ran history e rows none on = record {
         by true h six = omega (arith, h, six)
         by false h six = omega (arith, h, six)
 
--- what a run names as damaged, one names too that reads all at its end
-reads_too : (script : Result (List ScriptTxn) Refusal) (history : List Commit) (region_len : ℕ) (image : Image) (parts : List Part) (what : Damage) → IsDamageIn script ⊥ history region_len image parts what
-    → IsDamageIn script (Unit {0}) history region_len image parts what
-reads_too script history region_len image parts (damage_of.Region region at) bad = bad
-reads_too script history region_len image parts (damage_of.Gap after region) none = absurd none
-reads_too script history region_len image parts (damage_of.Overlap region other) none = absurd none
-reads_too script history region_len image parts (damage_of.Node id) m = record {
-  in_bucket = m.in_bucket;
-  nodes = m.nodes;
-  each = m.each;
-  committed = m.committed;
-  own = m.own;
-  now = m.now;
-  goes_on = m.goes_on;
-  itself = m.itself;
-  looks = ⊎_elim (λ call. inl call) (λ never. absurd never.0) m.looks;
-}
-
 module _ (n : Numbers) (script : List ScriptTxn) (same : script ≡ script_by n) (disk : Disk) (chain : Chain) (ran : Ran) (room : RoomValue) (r : RunsFrom default_options script disk chain ran room) (sees : SeesChain disk chain) where
   run : IsRunOf default_options disk room.disk script ran
   run = run_from default_options script disk chain ran room r sees
@@ -108,7 +83,7 @@ module _ (n : Numbers) (script : List ScriptTxn) (same : script ≡ script_by n)
   history = r.runs.history
 
   entry_told : (before : Told) → disk.told ≡ Some before → room.entry.told ≡ Some before
-  entry_told before is = ap (λ (d : Disk). d.told) r.entry ∙ is
+  entry_told before is = tells_same room.entry disk r.runs.adds.beside.origin ∙ is
 
   -- ---- what the room tells behind the run
 
@@ -116,12 +91,9 @@ module _ (n : Numbers) (script : List ScriptTxn) (same : script ≡ script_by n)
     on : IsRunOn default_options disk room.disk before after script ran history e rows
     on = on_from default_options script disk chain ran room r before after e rows old_is mid_is shows sound
 
-    began : Began (origin_of disk) e rows
-    unfolding origin_of
-    began = record { image = before.bytes; told = ap (option_map (λ (t : Told). t.bytes)) old_is; shows = shows; sound = sound }
-
     stands : Stands room rows e history
-    stands = r.runs.adds.stands rows e began ((ready disk chain.parts chain.retired r.whole r.stood).stands rows e began)
+    stands =
+        r.runs.adds.stands rows e (began disk chain.parts chain.retired r.whole r.stood before e rows old_is shows sound) (stood disk chain.parts chain.retired r.whole r.stood before e rows old_is shows sound)
 
     s : StandsTold room.room before after rows e history
     s = told_of room before after rows e history (entry_told before old_is) mid_is stands
@@ -201,7 +173,7 @@ module _ (n : Numbers) (script : List ScriptTxn) (same : script ≡ script_by n)
             subst (λ (x : RoomValue). HasRisen disk.faults x.disk.faults) (sym same) (run.only_risen (at ∙ ap (λ (y : RunFault). Some y) disk_is))
 
         by_shut : room.room.is_shut ≡ true → new ≡ room → HasRisen disk.faults new.disk.faults
-        by_shut shut same = subst (λ (x : RoomValue). HasRisen disk.faults x.disk.faults) (sym same) (subst (λ (d : Disk). HasRisen d.faults room.disk.faults) r.entry (r.runs.adds.whole.entry.failed shut).1)
+        by_shut shut same = subst (λ (x : RoomValue). HasRisen disk.faults x.disk.faults) (sym same) (risen_same room.entry disk room.disk r.runs.adds.beside.origin (r.runs.adds.whole.entry.failed shut).1)
 
         by_read : room.room.is_shut ≡ false → ReadsMap room new found → HasRisen disk.faults new.disk.faults
         by_read opened m = failed (subst (AnswersMap room new) is m.answer)
@@ -254,73 +226,21 @@ module _ (n : Numbers) (script : List ScriptTxn) (same : script ≡ script_by n)
             by None at = absurd (subst (λ t. BothTold Continues (Some before) t) at (subst (λ t. BothTold Continues t room.disk.told) old_is run.time))
             by (Some after) at = let live = read_rows before after e rows old_is at shows sound none opened in subst (AnswersRows live.0) is (answers live.0 live.1) live.2
 
-    -- ---- what is named, by the bytes at entry
+    -- a fault of reading names a row or an index entry, which stand at a place, or a node
+    place_or_node : (what : Damage) → IsNamed room what → IsPlaceOrNode what
+    place_or_node (damage_of.Region region at) h = tt
+    place_or_node (damage_of.Gap after region) h = absurd h
+    place_or_node (damage_of.Overlap region other) h = absurd h
+    place_or_node (damage_of.Node id) h = tt
 
-    module _ (before after : Told) (parts : List Part) (old_is : disk.told ≡ Some before) (chained : chain_in disk.region_len before.bytes ≡ Ok parts) (mid_is : room.disk.told ≡ Some after) (none : ran.fault ≡ None) (opened : room.room.is_shut ≡ false) where
-      now_is : room.room.image ≡ Some after.bytes
-      now_is = ap (λ (x : RoomState). x.image) r.runs.adds.whole.of_disk ∙ ap (option_map (λ (t : Told). t.bytes)) mid_is
-
-      log_is : (origin_of disk).image ≡ Some before.bytes
-      unfolding origin_of
-      log_is = ap (option_map (λ (t : Told). t.bytes)) old_is
-
-      long : (origin_of disk).region_len ≡ disk.region_len
-      unfolding origin_of
-      long = refl
-
-      log_chain : chain_in (origin_of disk).region_len before.bytes ≡ Ok parts
-      log_chain = subst (λ m. chain_in m before.bytes ≡ Ok parts) (sym long) chained
-
-      waits : room.room.waiting ≡ 0
-      waits = none_waits (made disk chain.parts chain.retired).room.sealed room.room.sealed room.room.waiting history r.runs.adds.epochs r.runs.adds.sealed r.runs.adds.waiting
-          (let last = r.runs.all_durable (inl none) in let d = r.runs.durable in omega (arith, last, d))
-
-      left : (seer : Eye) → LooksOn room.room seer → IsLeftTo (origin_of disk) room history seer
-      left seer looks = record {
-        whole = r.runs.adds.whole;
-        opened = opened;
-        none_waits = waits;
-        region_len = ap (λ (x : RoomState). x.region_len) r.runs.adds.whole.of_disk ∙ run.beside.region_len ∙ sym long;
-        sees = looks.sees;
-        leaves = r.leaves none;
-      }
-
-      unfit : (id : NodeId) (seer : Eye) → MeetsUnfit (tells_room room) (finds_by room.room seer) id → ScansUnfit room.room seer id
-      unfit id seer m = record {
-        in_bucket = m.in_bucket;
-        nodes = m.nodes;
-        each = λ number. ⊎_elim (λ found. inl found.0) (λ nothing. inr nothing) (m.each number);
-        itself = m.itself;
-        low = [];
-        high = behind_keys;
-        wanted = most_pairs;
-        unfit = m.unfit;
-      }
-
-      named_in : (what : Damage) → IsNamed room what → IsDamageIn (Ok script) (Unit {0}) history disk.region_len before.bytes parts what
-      named_in (damage_of.Region region at) (seer, looks, blamed) = subst (λ m. HasBadPlace m before.bytes parts (record { region = region; at = at })) long
-          (blames (origin_of disk) room history seer (record { region = region; at = at }) (left seer looks) blamed before.bytes after.bytes parts log_is log_chain now_is)
-      named_in (damage_of.Gap after region) h = absurd h
-      named_in (damage_of.Overlap region other) h = absurd h
-      named_in (damage_of.Node id) (seer, looks, meets) = subst (λ m. RunMeets (Ok script) (Unit {0}) history m before.bytes parts id) long
-          (scans (origin_of disk) room history seer script id (left seer looks) (unfit id seer meets) before.bytes after.bytes parts log_is log_chain now_is)
-
-    damage : (what : Damage) (before : Told) (parts : List Part) → found ≡ Err (run_fault.Damaged what) → disk.told ≡ Some before → chain_in disk.region_len before.bytes ≡ Ok parts
-        → IsDamageIn (Ok script) (Unit {0}) history disk.region_len before.bytes parts what
-    damage what before parts is old_is chained = parted (λ f at found_is same. by_run f at found_is) (λ none found_is shut same. absurd (not_disk what is found_is)) (λ none opened m answers. by_read none opened m)
+    placed : (what : Damage) → found ≡ Err (run_fault.Damaged what) → IsPlaceOrNode what
+    placed what is = parted (λ f at found_is same. by_run f at found_is) (λ none found_is shut same. absurd (not_disk what is found_is)) (λ none opened m answers. place_or_node what (subst (AnswersMap room new) is m.answer).2)
       where
-        by_run : (f : RunFault) → ran.fault ≡ Some f → found ≡ Err f → IsDamageIn (Ok script) (Unit {0}) history disk.region_len before.bytes parts what
+        by_run : (f : RunFault) → ran.fault ≡ Some f → found ≡ Err f → IsPlaceOrNode what
         by_run f at found_is =
             let x : ◌≡◌ {A = Result (List Pair) RunFault} (Err f) (Err (run_fault.Damaged what)) = sym found_is ∙ is in
             let damaged : f ≡ run_fault.Damaged what = cc in
-            reads_too (Ok script) history disk.region_len before.bytes parts what (r.damage what (at ∙ ap (λ (y : RunFault). Some y) damaged) before parts old_is chained)
-
-        by_read : ran.fault ≡ None → room.room.is_shut ≡ false → ReadsMap room new found → IsDamageIn (Ok script) (Unit {0}) history disk.region_len before.bytes parts what
-        by_read none opened m = by room.disk.told refl
-          where
-            by : (t : Option Told) → room.disk.told ≡ t → IsDamageIn (Ok script) (Unit {0}) history disk.region_len before.bytes parts what
-            by None at = absurd (subst (λ t. BothTold Continues (Some before) t) at (subst (λ t. BothTold Continues t room.disk.told) old_is run.time))
-            by (Some after) at = named_in before after parts old_is chained at none opened what (subst (AnswersMap room new) is m.answer).2
+            run.placed what (at ∙ ap (λ (y : RunFault). Some y) damaged)
 
     counted_on : (before after : Told) (e : ℕ) (rows : List Row) → disk.told ≡ Some before → new.disk.told ≡ Some after → Shows disk.region_len before.bytes e rows → IsSound rows
         → IsRunOn default_options disk new.disk before after script ran history e rows × ((pairs : List Pair) → found ≡ Ok pairs → pairs ≡ map_at rows history)
@@ -343,7 +263,7 @@ module _ (n : Numbers) (script : List ScriptTxn) (same : script ≡ script_by n)
       chain = chain;
       sees = sees;
       history = history;
-      behind = subst (λ s. IsRunBehind default_options disk.region_len chain.parts s ran history) script_is (behind_of disk chain.parts chain.retired r.whole r.stood room script default_options ran r.runs r.entry);
+      behind = subst (λ s. IsRunBehind default_options chain.parts s ran history) script_is (behind_of disk chain.parts chain.retired r.whole r.stood room script default_options ran r.runs.run);
       durable_is = all_durable (made disk chain.parts chain.retired).room.sealed room.room.sealed room.room.waiting history r.runs.adds.epochs r.runs.adds.sealed r.runs.adds.waiting ∙ ap (are_durable history) (sym r.runs.durable);
       fault_is = fault_is;
       beside = beside;
@@ -351,8 +271,7 @@ module _ (n : Numbers) (script : List ScriptTxn) (same : script ≡ script_by n)
       only_risen = only_risen;
       where_risen = where_risen;
       unsound = unsound;
-      run_damage = λ what before parts is old_is chained. subst (λ s. IsDamageIn (Ok s) ⊥ history disk.region_len before.bytes parts what) script_is (r.damage what is before parts old_is chained);
-      damage = λ what before parts is old_is chained. subst (λ s. IsDamageIn (Ok s) (Unit {0}) history disk.region_len before.bytes parts what) script_is (damage what before parts is old_is chained);
+      placed = placed;
       told = λ before after e rows old_is new_is shows sound.
           let c = counted_on before after e rows old_is new_is shows sound in record { on = subst (λ s. IsRunOn default_options disk new.disk before after s ran history e rows) script_is c.0; map = c.1 };
     }

@@ -1,5 +1,5 @@
 -- What of a run's history is durable, and what it leaves of its lanes.
-use Rattle.std.proofs.Common.{◌≡◌, ◌⊎◌, inl, inr, ℕ, ◌+◌, ◌<◌, ◌≤◌, ◌==◌, eqb-true, leb, Bool, true, false, cond, ◌&&◌, ◌||◌, List, [], ◌∷◌, refl, sym, ap, ◌∙◌, subst, arith}
+use Rattle.std.proofs.Common.{◌≡◌, ◌⊎◌, inl, inr, ℕ, ◌+◌, ◌<◌, ◌≤◌, ◌==◌, leb, Bool, true, false, cond, ◌&&◌, ◌||◌, List, [], ◌∷◌, refl, sym, ap, ◌∙◌, subst, arith}
 use Rattle.std.specs.Prelude.{count_by, nat_le, not, zip}
 use Rattle.std.specs.List.{list_all, list_any, range_with_len}
 use Rattle.std.proofs.lemmas.Bool.Decides.{leb_tells}
@@ -39,17 +39,6 @@ follows_on e (c ∷ cs) follow = (inr follow.0, follow.1)
 pub all_durable : (e sealed waiting : ℕ) (history : List Commit) → EpochsFollow e history → IsSealedUpTo e history sealed → waiting ≡ count_by (λ (c : Commit). c.epoch == sealed + 1) history → (waiting == 0) ≡ are_durable history sealed
 all_durable e sealed waiting history follow up_to is =
     ap (λ w. w == 0) is ∙ sum_by-zero (λ (c : Commit). cond {A = ℕ} (c.epoch == sealed + 1) 1 0) history ∙ none_open e sealed history (follows_on e history follow) (last_most e sealed history up_to)
-
-sealed_all : (e n : ℕ) (history : List Commit) → EpochsGoOn e history → last_epoch e history ≤ n → are_durable history n ≡ true
-sealed_all e n [] on most = refl
-sealed_all e n (c ∷ cs) on most = ap (λ b. b && are_durable cs n) (low c.epoch n (omega (arith, last_epoch-from c.epoch cs on.1, most))) ∙ sealed_all c.epoch n cs on.1 most
-  where
-    low : (x y : ℕ) → x ≤ y → nat_le x y ≡ true
-    low x y h = grind (arith, h)
-
--- and nothing waits where the last epoch is sealed
-pub none_waits : (e sealed waiting : ℕ) (history : List Commit) → EpochsFollow e history → IsSealedUpTo e history sealed → waiting ≡ count_by (λ (c : Commit). c.epoch == sealed + 1) history → last_epoch e history ≤ sealed → waiting ≡ 0
-none_waits e sealed waiting history follow up_to is last = eqb-true waiting 0 (all_durable e sealed waiting history follow up_to is ∙ sealed_all e sealed history (follows_on e history follow) last)
 
 -- ---- where all was run, no lane was cut short
 

@@ -12,6 +12,7 @@ use Rattle.fine_model.specs.declared.Ran.{Ran}
 use Rattle.fine_model.specs.declared.Row.{Row}
 use Rattle.fine_model.specs.declared.RunFault.{RunFault}
 use Rattle.fine_model.specs.declared.RunFault.TheVariants as run_fault
+use Rattle.fine_model.specs.declared.Why.TheVariants as why
 use Rattle.fine_model.specs.Chain.{Shows}
 use Rattle.fine_model.specs.Commands.{GenStatus, GenTheorem, are_durable, fault_summary, summary, PrintsFault}
 use Rattle.fine_model.specs.Headline.{FailsSound, HasStatus, IsDoneRun, IsFrontOf, IsRunWith, KeepsEvery, KeepsUpTo, OneOf, Return, Start, TellsFaults, causes_of}
@@ -349,6 +350,7 @@ module _ (n : Numbers) (output : ℕ × ℕ) (old new : Disk) (status : ℕ) (wa
           };
           caused = record { each = λ i txn word is_txn is_refused. absurd (not_refused (length (script_by n)) i word (subst (λ os. slice_get os i ≡ Some (outcome.Refused word)) (sym (none_told (script_by n))) is_refused)) };
           few_each = λ one e. omega arith;
+          last_need = λ one i txn is is_txn. absurd (not_refused (length (script_by n)) i why.Full (subst (λ os. slice_get os i ≡ Some (outcome.Refused why.Full)) (sym (none_told (script_by n))) is.0));
           failed = λ f is. let x : ◌≡◌ {A = Option RunFault} (Some fault) (Some f) = is in let same : fault ≡ f = cc in subst (FailsSound back) same fails;
           all_run = λ none. absurd (let x : ◌≡◌ {A = Option RunFault} (Some fault) None = none in cc);
           all_durable = λ none. refl;

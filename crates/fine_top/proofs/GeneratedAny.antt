@@ -47,7 +47,7 @@ module _ (n : Numbers) (source output : ℕ × ℕ) (old new : Disk) (status : �
     back = return_of old new source output before after
 
     abbrev running : Running
-    running = record { script = Ok (script_by n); reads_all = Unit {0}; statuses = 0 ∷ 1 ∷ 5 ∷ 6 ∷ 7 ∷ 8 ∷ []; prints = Summarizes n.start n.count n.lanes }
+    running = record { script = Ok (script_by n); statuses = 0 ∷ 1 ∷ 5 ∷ 6 ∷ 7 ∷ 8 ∷ []; prints = Summarizes n.start n.count n.lanes }
 
     abbrev Said : ℕ → List ℕ → Type 0
     Said = Says running old.region_len before.bytes back
@@ -129,7 +129,7 @@ module _ (n : Numbers) (source output : ℕ × ℕ) (old new : Disk) (status : �
             c.chain.parts,
             c.history,
             chained ran all_durable (Err (run_fault.Damaged what)) c,
-            c.damage what before c.chain.parts refl old_is (chained ran all_durable (Err (run_fault.Damaged what)) c),
+            c.placed what refl,
             inr (fault_as ran all_durable (Err (run_fault.Damaged what)) c (run_fault.Damaged what) 7 refl),
           ),
         )

@@ -1,4 +1,5 @@
 pub mod Chainless
+pub mod Entries
 pub mod Between
 pub mod Theorem
 pub mod Saying

@@ -10,7 +10,7 @@ use Rattle.fine_model.specs.Words.{Command, dump, merge}
 use Rattle.command_words.specs.Words.{meant}
 use Rattle.command_words.specs.declared.command.Command.{Command as ReadCommand}
 use Rattle.log_disk.specs.Moments.{ContinuesOn}
-use Rattle.map_reader.specs.Dumps.{DumpsAny, DumpsWell, Ends as EndsDump, FindsDump, IsUnsoundLog as DumpUnsound, LeavesBeside as DumpBeside}
+use Rattle.log_commands.specs.Dumps.{DumpsAny, DumpsWell, Ends as EndsDump, FindsDump, IsUnsoundLog as DumpUnsound, LeavesBeside as DumpBeside}
 use Rattle.log_disk.proofs.Times.{continues_told}
 use Rattle.log_commands.specs.Ends.{Ends, MergesAnyWell, MergesWell, status_of}
 use Rattle.log_commands.specs.Found.{FindsChain}

@@ -19,6 +19,7 @@ use Rattle.fine_model.specs.declared.Damage.{Damage}
 use Rattle.fine_model.specs.declared.Reason.{Reason}
 use Rattle.fine_model.specs.declared.Reason.TheVariants as reason
 use Rattle.fine_model.specs.declared.Ran.{Ran}
+use Rattle.fine_model.specs.declared.Why.TheVariants as refusal
 use Rattle.fine_model.specs.Outcomes.{AreOutcomes, is_refused}
 use Rattle.fine_model.specs.Nodes.{Agrees}
 use Rattle.fine_model.specs.History.{Commit, all_rows, upto}
@@ -254,6 +255,7 @@ module _ (options : Options) (source output : ℕ × ℕ) (left : Option (List �
             };
             caused = record { each = λ i txn word is_txn is_refused. absurd (not_refused (length spells.0) i word (subst (λ os. slice_get os i ≡ Some (outcome.Refused word)) (sym (none_told spells.0)) is_refused)) };
             few_each = λ one e. omega arith;
+            last_need = λ one i txn is is_txn. absurd (not_refused (length spells.0) i refusal.Full (subst (λ os. slice_get os i ≡ Some (outcome.Refused refusal.Full)) (sym (none_told spells.0)) is.0));
             failed = λ fault is. failed_by fault is (disk_rose (counts.faults tt));
             all_run = λ none. absurd (let x : ◌≡◌ {A = Option RunFault} (Some run_fault.Disk) None = none in cc);
             all_durable = λ none. refl;

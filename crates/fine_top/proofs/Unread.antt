@@ -20,8 +20,8 @@ use Rattle.log_commands.proofs.MergeTheorem.{merges_well}
 use Rattle.log_commands.proofs.Ranges.{ranges_well}
 use Rattle.script_text.specs.Streams.{Puts}
 use Rattle.fine_top.specs.Commands.{Does, Leaves, Own, seen, statuses_of}
-use Rattle.map_reader.specs.Dumps.{Ends as EndsDump}
-use Rattle.map_reader.proofs.Dumped.{dumps_any, dumps_well}
+use Rattle.log_commands.specs.Dumps.{Ends as EndsDump}
+use Rattle.log_commands.proofs.Dumped.{dumps_any, dumps_well}
 use Rattle.fine_top.specs.Generating.{Ends as EndsGen, Numbers, numbers, early as gen_early, text_of as gen_text}
 use Rattle.fine_top.specs.Running.{Ends, early, text_of}
 use Rattle.fine_top.proofs.Generated.{gens_well}

@@ -12,7 +12,7 @@ use Rattle.fine_model.specs.Words.{Command, run, dump, ranges, merge, gen}
 use Rattle.log_commands.specs.Ends.{Ends as EndsListing, MergesAnyWell, MergesWell, RangesWell}
 use Rattle.log_commands.specs.Found.{FindsChain}
 use Rattle.log_commands.specs.Merged.{MergesLog}
-use Rattle.map_reader.specs.Dumps.{DumpsAny, DumpsWell, Ends as EndsDump}
+use Rattle.log_commands.specs.Dumps.{DumpsAny, DumpsWell, Ends as EndsDump}
 use Rattle.fine_top.specs.Generating.{Ends as EndsGen, GensAny, GensWell, Numbers, numbers}
 use Rattle.fine_top.specs.Opened.{IsOpenedLog, IsUnsoundLog}
 use Rattle.fine_top.specs.Running.{Ends, IsRefused, LeavesBeside, OfTold, RunsAny, RunsWell, SpellsScript}

@@ -5,16 +5,15 @@ use Rattle.log_disk.specs.Moments.{ContinuesOn}
 use Rattle.fine_model.specs.declared.Damage.{Damage}
 use Rattle.fine_model.specs.declared.Options.{Options}
 use Rattle.fine_model.specs.declared.Outcome.{Outcome}
-use Rattle.fine_model.specs.declared.Part.{Part}
 use Rattle.fine_model.specs.declared.Ran.{Ran}
 use Rattle.fine_model.specs.declared.Row.{Row}
 use Rattle.fine_model.specs.declared.RunFault.{RunFault}
 use Rattle.fine_model.specs.declared.RunFault.TheVariants as run_fault
 use Rattle.fine_model.specs.declared.ScriptTxn.{ScriptTxn}
 use Rattle.fine_model.specs.Bounds.{FitsScript}
-use Rattle.fine_model.specs.Chain.{Shows, chain as chain_in}
+use Rattle.fine_model.specs.Chain.{Shows}
 use Rattle.fine_model.specs.Commands.{GenDamagedTheorem, GenTheorem, are_durable, fault_summary, summary}
-use Rattle.fine_model.specs.Damages.{IsDamageIn}
+use Rattle.fine_model.specs.Damages.{IsPlaceOrNode}
 use Rattle.fine_model.specs.Generator.{generated}
 use Rattle.fine_model.specs.History.{Commit, map_at}
 use Rattle.fine_model.specs.Headline.{OneOf}
@@ -26,7 +25,7 @@ use Rattle.epoch_room.specs.Value.{RoomValue}
 use Rattle.epoch_room.specs.Whole.{IsWhole}
 use Rattle.log_commands.specs.Ends.{fault_status}
 use Rattle.log_commands.specs.Found.{FindsChain}
-use Rattle.map_reader.specs.Maps.{AnswersRows, ReadsMap, tells_room}
+use Rattle.log_commands.specs.Maps.{AnswersRows, ReadsMap, tells_room}
 use Rattle.reopen.specs.declared.chain.Chain.{Chain}
 use Rattle.reopen.specs.Opening.{SeesChain}
 use Rattle.run_laws.specs.Law.{return_of, start_of}
@@ -84,13 +83,13 @@ pub record IsCountedOn (n : Numbers) (old new : Disk) (before after : Told) (ran
   pub map : (pairs : List Pair) → found ≡ Ok pairs → pairs ≡ map_at rows history
 
 -- A run of the generated script between two states of the disk, behind the chain that was found, with what was read at its end; on each sound log that the disk told it is a run on this log. Whatever it tells:
--- a fault of the run is the one that is told; a failed disk is told only where its count rose, and where that is greater than it was, a failed disk or want of memory; damage only on a log that is
--- not sound. Where a chain is found in the bytes at entry, they have the damage that is told, or the run's calls made it of their nodes, as one of them meets it, or the final reading does.
+-- a fault of the run is the one that is told; a failed disk is told only where its count rose, and where that is greater than it was, a failed disk or want of memory; damage, of the run or of the
+-- final reading, only on a log that is not sound: a place or a node, and which one is free.
 pub record IsCounted (n : Numbers) (old new : Disk) (ran : Ran) (all_durable : Bool) (found : Result (List Pair) RunFault) : Type 0 where
   pub chain : Chain
   pub sees : SeesChain old chain
   pub history : List Commit
-  pub behind : IsRunBehind default_options old.region_len chain.parts (script_by n) ran history
+  pub behind : IsRunBehind default_options chain.parts (script_by n) ran history
   pub durable_is : all_durable ≡ are_durable history ran.durable
   pub fault_is : (fault : RunFault) → ran.fault ≡ Some fault → found ≡ Err fault
   pub beside : LeavesBeside old new
@@ -98,10 +97,7 @@ pub record IsCounted (n : Numbers) (old new : Disk) (ran : Ran) (all_durable : B
   pub only_risen : found ≡ Err run_fault.Disk → HasRisen old.faults new.faults
   pub where_risen : old.faults < new.faults → (found ≡ Err run_fault.Disk) ⊎ (found ≡ Err run_fault.Memory)
   pub unsound : (what : Damage) → found ≡ Err (run_fault.Damaged what) → IsUnsoundLog old
-  pub run_damage : (what : Damage) (before : Told) (parts : List Part) → ran.fault ≡ Some (run_fault.Damaged what) → old.told ≡ Some before → chain_in old.region_len before.bytes ≡ Ok parts
-      → IsDamageIn (Ok (script_by n)) ⊥ history old.region_len before.bytes parts what
-  pub damage : (what : Damage) (before : Told) (parts : List Part) → found ≡ Err (run_fault.Damaged what) → old.told ≡ Some before → chain_in old.region_len before.bytes ≡ Ok parts
-      → IsDamageIn (Ok (script_by n)) (Unit {0}) history old.region_len before.bytes parts what
+  pub placed : (what : Damage) → found ≡ Err (run_fault.Damaged what) → IsPlaceOrNode what
   pub told : (before after : Told) (e : ℕ) (rows : List Row) → old.told ≡ Some before → new.told ≡ Some after → Shows old.region_len before.bytes e rows → IsSound rows
       → IsCountedOn n old new before after ran found history e rows
 

@@ -15,11 +15,11 @@ use Rattle.fine_model.specs.declared.Reason.TheVariants as reason
 use Rattle.fine_model.specs.declared.Ran.{Ran}
 use Rattle.fine_model.specs.declared.Part.{Part}
 use Rattle.fine_model.specs.Bounds.{FitsScript}
-use Rattle.fine_model.specs.Damages.{IsDamageIn, IsDurableFor, RunDamagedTheorem}
+use Rattle.fine_model.specs.Damages.{IsDurableFor, IsPlaceOrNode, RunDamagedTheorem}
 use Rattle.fine_model.specs.Outcomes.{AllRun, AreOutcomes, IsOneLane, is_refused}
 use Rattle.fine_model.specs.History.{Commit}
 use Rattle.fine_model.specs.Trees.{IsSound}
-use Rattle.fine_model.specs.Chain.{Shows, chain, chain_end}
+use Rattle.fine_model.specs.Chain.{Shows, chain_end}
 use Rattle.fine_model.specs.Room.{IsSealedUpTo}
 use Rattle.fine_model.specs.Headline.{Start, HasStatus, IsDoneRun, IsRunWith, IsRefusedAt, OneOf, RunTheorem, causes_of}
 use Rattle.fine_model.specs.Script.{script_of}
@@ -30,9 +30,8 @@ use Rattle.log_commands.specs.Ends.{fault_status}
 use Rattle.log_commands.specs.Found.{SeesLog}
 use Rattle.run_laws.specs.Law.{return_of, start_of}
 use Rattle.run_laws.specs.Needs.{AreSealedInNeed}
-use Rattle.run_laws.specs.Runs.{AreFewOfLanes, IsDamageAt, IsReplied, RunsScript}
-use Rattle.txn_runner.specs.Left.{Leaves}
-use Rattle.epoch_room.specs.Meaning.{StandsAtFirst, origin_of}
+use Rattle.run_laws.specs.Runs.{AreFewOfLanes, IsReplied, RunsLanes}
+use Rattle.epoch_room.specs.Meaning.{StandsAtFirst}
 use Rattle.epoch_room.specs.Value.{RoomValue, made}
 use Rattle.epoch_room.specs.Whole.{IsWhole}
 use Rattle.fine_top.specs.declared.opening.Opened.{Opened}
@@ -102,15 +101,16 @@ pub record IsRunOn (options : Options) (old new : Disk) (before after : Told) (s
   -- with status 0, 6 or 8 it was done
   pub done : (source output : ℕ × ℕ) (status : ℕ) → HasStatus status (all_outcomes script ran.outcomes) ran.fault → (status ≡ 0) ⊎ (status ≡ 6) ⊎ (status ≡ 8)
       → IsDoneRun (start_of script old e rows) (return_of old new source output before after) status script (all_outcomes script ran.outcomes) ran.durable history
+  -- where all transactions are of one lane, an epoch that another one follows has a group of entries, or the rows of the next entry did not fit it
+  pub in_need : IsOneLane script → AreSealedInNeed old.region_len options.group e history
 
 -- What a run with this history is on every disk, whatever it tells, behind the parts of the log at entry: the outcomes are those of the history, whose epochs go on from the chain's; each call of a
--- commit has a reply that the store has on some map; no epoch has more entries of a lane than a group; where all transactions are of one lane, an epoch that another one follows has a group of entries, or the
--- rows of the next entry did not fit it; and what is durable is all of the history, or all but its last epoch, and all of it where no fault came.
-pub record IsRunBehind (options : Options) (region_len : ℕ) (parts : List Part) (script : List ScriptTxn) (ran : Ran) (history : List Commit) : Type 0 where
+-- commit has a reply that the store has on some map; no epoch has more entries of a lane than a group; and the epoch that is told durable is the last of the history, or the one before it, and the last where
+-- no fault came. Of what is on a disk that tells no bytes this says nothing.
+pub record IsRunBehind (options : Options) (parts : List Part) (script : List ScriptTxn) (ran : Ran) (history : List Commit) : Type 0 where
   pub outcomes : AreOutcomes script (chain_end parts) (all_outcomes script ran.outcomes) history
   pub replied : AllByRecursion IsReplied history
   pub few_each : AreFewOfLanes options.group history
-  pub in_need : IsOneLane script → AreSealedInNeed region_len options.group (chain_end parts) history
   pub durable : IsDurableFor parts history ran.fault ran.durable
   pub all_but_last : IsSealedUpTo (chain_end parts) history ran.durable
   pub all_run : ran.fault ≡ None → AllRun (all_outcomes script ran.outcomes)
@@ -122,20 +122,18 @@ pub record LeavesBeside (old new : Disk) : Type 0 where
   pub no_eyes : new.eyes ≡ []
 
 -- A run between two states of the disk, behind the chain that was found, by one history; on each sound log that the disk told it is a run on this log. Whatever it tells: a failed disk is told only
--- where its count rose, and where that is greater than it was, a failed disk or want of memory; damage only on a log that is not sound. Where a chain is found in the bytes at entry, they have that
--- damage, or the run's calls made it of their nodes.
+-- where its count rose, and where that is greater than it was, a failed disk or want of memory; damage only on a log that is not sound: a place or a node, and which one is free.
 pub record IsRunOf (options : Options) (old new : Disk) (script : List ScriptTxn) (ran : Ran) : Type 0 where
   pub found : Chain
   pub sees : SeesChain old found
   pub history : List Commit
-  pub behind : IsRunBehind options old.region_len found.parts script ran history
+  pub behind : IsRunBehind options found.parts script ran history
   pub beside : LeavesBeside old new
   pub time : ContinuesOn old new
   pub only_risen : ran.fault ≡ Some run_fault.Disk → HasRisen old.faults new.faults
   pub where_risen : old.faults < new.faults → (ran.fault ≡ Some run_fault.Disk) ⊎ (ran.fault ≡ Some run_fault.Memory)
   pub unsound : (what : Damage) → ran.fault ≡ Some (run_fault.Damaged what) → IsUnsoundLog old
-  pub damage : (what : Damage) (before : Told) (parts : List Part) → ran.fault ≡ Some (run_fault.Damaged what) → old.told ≡ Some before → chain old.region_len before.bytes ≡ Ok parts
-      → IsDamageIn (Ok script) ⊥ history old.region_len before.bytes parts what
+  pub placed : (what : Damage) → ran.fault ≡ Some (run_fault.Damaged what) → IsPlaceOrNode what
   pub told : (before after : Told) (e : ℕ) (rows : List Row) → old.told ≡ Some before → new.told ≡ Some after → Shows old.region_len before.bytes e rows → IsSound rows
       → IsRunOn options old new before after script ran history e rows
 
@@ -176,10 +174,7 @@ pub record Ends (options : Options) (source_rose : Type 0) (left : Option (List 
 pub record RunsFrom (options : Options) (script : List ScriptTxn) (disk : Disk) (found : Chain) (ran : Ran) (room : RoomValue) : Type 0 where
   pub whole : IsWhole (made disk found.parts found.retired)
   pub stood : StandsAtFirst (made disk found.parts found.retired) disk.told
-  pub runs : RunsScript script options (made disk found.parts found.retired) room ran
-  pub damage : (what : Damage) → ran.fault ≡ Some (run_fault.Damaged what) → IsDamageAt (made disk found.parts found.retired) script runs.history what
-  pub leaves : ran.fault ≡ None → Leaves (origin_of disk) room runs.history
-  pub entry : room.entry ≡ disk
+  pub runs : RunsLanes script options (made disk found.parts found.retired) room ran
 
 -- a script may be run, and the chain of the log that it runs on was found
 pub record OpensRun (left : Option (List ℕ)) (disk : Disk) (opened : Opened) : Type 0 where

@@ -16,9 +16,8 @@ use crate::printing::{print_no_memory, print_reason, print_run};
 use crate::running::run_chain;
 use epoch_room::{Fit, Room};
 use fine_model::{Gate, Options, Outcome, Pairs, Ran, Reason, RunFault, Script};
-use log_commands::{Finish, Status, find_chain};
+use log_commands::{Finish, Status, find_chain, read_map};
 use log_disk::LogDisk;
-use map_reader::read_map;
 use script_text::{GeneratedRun, Sink, generate};
 use std::alloc::Global;
 
@@ -197,7 +196,8 @@ fn run_generated<K: Sink, D: LogDisk, G: Gate>(
 /// each outcome, how many keys begin with `k`, the sum of the 64 counters, and whether all that was committed is durable.
 ///
 /// The status is 0 where the run was done, and 8 where it was done and some transaction was refused; 6 where the disk failed; 7 where the log is damaged; 1 where memory ran out. With 1, 6 and 7 the
-/// summary without what is read of the map is printed, with the fault's line behind it, or this line alone where nothing was run. Where the text cannot be written whole, the status is 5.
+/// summary without what is read of the map is printed, with the fault's line behind it, or this line alone where nothing was run. Behind the chain, which place or node that line names no clause
+/// says. Where the text cannot be written whole, the status is 5.
 pub(crate) fn generate_and_print<K: Sink, D: LogDisk, G: Gate>(
     alloc: Global,
     start: u64,

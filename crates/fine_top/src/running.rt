@@ -86,7 +86,8 @@ fn run_opened<K: Sink, D: LogDisk, G: Gate>(
 ///
 /// The status is 0 where the run was done, and 8 where it was done and some transaction was refused; 3 for a script with a refused line; 4 where the source failed; 6 where the disk failed;
 /// 7 where the log is damaged; 1 where memory ran out. With 0 and 8 the report is printed; with 1, 6 and 7 the report as far as the run came, with the reason's line behind it, or this line
-/// alone where nothing was run; else the reason's line alone. Where the text cannot be written whole, the status is 5.
+/// alone where nothing was run; else the reason's line alone. Behind the chain, which place or node the line of a damaged log names no clause says. Where the text cannot be written whole, the
+/// status is 5.
 pub(crate) fn run_and_print<S: Source, K: Sink, D: LogDisk, G: Gate>(
     alloc: Global,
     options: &Options,

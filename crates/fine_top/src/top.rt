@@ -11,7 +11,7 @@ ghost use Rattle.log_commands.specs.Found.{FindsChain};
 ghost use Rattle.log_commands.specs.Merged.{MergesLog};
 ghost use Rattle.log_disk.specs.Disk.{HasRisen};
 ghost use Rattle.log_disk.specs.Moments.{ContinuesOn};
-ghost use Rattle.map_reader.specs.Dumps.{DumpsAny, DumpsWell, Ends as EndsDump};
+ghost use Rattle.log_commands.specs.Dumps.{DumpsAny, DumpsWell, Ends as EndsDump};
 ghost use Rattle.fine_top.specs.Commands.{Does, HasScript, IsReading, NoneRose, RefusesWords, TellsSound, seen, statuses_of};
 ghost use Rattle.fine_top.specs.Generating.{Ends as EndsGen, GensAny, GensWell, numbers};
 ghost use Rattle.fine_top.specs.Opened.{IsOpenedLog, IsUnsoundLog};
@@ -23,9 +23,8 @@ use crate::printing::{print_no_memory, print_reason};
 use crate::running::run_and_print;
 use command_words::{Command, command_of};
 use fine_model::{Gate, Reason};
-use log_commands::{Finish, merge_and_print, print_ranges};
+use log_commands::{Finish, dump_and_print, merge_and_print, print_ranges};
 use log_disk::LogDisk;
-use map_reader::dump_and_print;
 use script_text::{Sink, Source};
 use std::alloc::Global;
 use std::sync::Wait;
@@ -104,8 +103,9 @@ fn obey<S: Source, K: Sink, D: LogDisk, G: Gate>(
 ///
 /// The status is 0 where the command was done; 8 where it was done and some transaction was refused; 1 where memory ran out; 2 for words that spell no command; 3 for a script with a refused
 /// line; 4 where the source failed; 5 where the output failed; 6 where the disk failed; 7 where the log is damaged. With 0 and 8 the command's whole text is printed. With 1, 6 and 7 it is
-/// the line of the fault, behind what a run of `run` or `gen` came to; with 2, 3 and 4 the line of the reason alone; with 5 a first part of one of these. The disk comes back with every status,
-/// and with 2, 3 and 4 as it was; `dump` and `ranges` write nothing to it.
+/// the line of the fault, behind what a run of `run` or `gen` came to; with 2, 3 and 4 the line of the reason alone; with 5 a first part of one of these. A damaged chain is named by its first
+/// damage, and `dump` and `merge` name what is there; which place or node a run names, no clause says. The disk comes back with every status, and with 2, 3 and 4 as it was; `dump` and `ranges`
+/// write nothing to it.
 ///
 /// The memory of the script of `run`, of its outcomes and of the nodes that it cached is not given back, as the program ends behind this call.
 pub fn fineline<R: Threads + Wait + Sync, S: Source, K: Sink, D: LogDisk, G: Gate>(
@@ -127,8 +127,9 @@ pub fn fineline<R: Threads + Wait + Sync, S: Source, K: Sink, D: LogDisk, G: Gat
     // Words that spell no command: their line is printed, and the disk is as it was.
     ensures words { command_in words.now ≡ None → RefusesWords (K.faults out.old, K.faults out.new) (D.state disk) (D.state result.disk) result.status (K.written out.old) (K.written out.new) }
 
-    // `run`: what is printed, and why. The printed places order the committed transactions into one history of a sequential store, every image that a crash could
-    // have left reopens to a prefix of it, each refusal that is printed has its cause, and status 6 tells a failed disk. On a log that is not sound, what is named as damaged is there, or the run's calls made it so.
+    // `run`: what is printed, and why. On a sound log that is told, the printed places order the committed transactions into one history of a sequential store, and every image that a crash could
+    // have left reopens to a prefix of it. Each refusal that is printed has its cause: of one lane behind the commits before it, of several lanes behind some commits. Status 6 tells a failed disk.
+    // A run names damage only of a log that is not sound; which place or node it names, no clause says.
     ensures run_ends { (options : Options) → command_in words.now ≡ Some (run options) → Ends options (HasRisen (S.faults script.old) (S.faults script.new)) (S.left script.old) (D.state disk) (D.state result.disk) result.status (K.written out.old) (K.written out.new) }
     ensures run { (options : Options) → command_in words.now ≡ Some (run options) → RunsWell options (S.left script.old) (S.faults script.old, S.faults script.new) (K.faults out.old, K.faults out.new) (D.state disk) (D.state result.disk) result.status (K.written out.old) (K.written out.new) }
     ensures run_any { (options : Options) → command_in words.now ≡ Some (run options) → RunsAny (S.left script.old) (S.faults script.old, S.faults script.new) (K.faults out.old, K.faults out.new) (D.state disk) (D.state result.disk) result.status (K.written out.old) (K.written out.new) }
@@ -151,12 +152,12 @@ pub fn fineline<R: Threads + Wait + Sync, S: Source, K: Sink, D: LogDisk, G: Gat
     ensures merge { command_in words.now ≡ Some merge → MergesWell (K.faults out.old, K.faults out.new) (D.state disk) (D.state result.disk) result.status (K.written out.old) (K.written out.new) }
     ensures merge_any { command_in words.now ≡ Some merge → MergesAnyWell (K.faults out.old, K.faults out.new) (D.state disk) (D.state result.disk) result.status (K.written out.old) (K.written out.new) }
 
-    // `gen`: what is printed, and why. It does as `run` on the generated script, and counts the outcomes, and what the map at the end has.
+    // `gen`: what is printed, and why. It does as `run` on the generated script, and counts the outcomes, and what the map at the end has. Damage that it names is as that of `run`.
     ensures gen_ends { (start count lanes : ℕ) → command_in words.now ≡ Some (gen start count lanes) → EndsGen (numbers start count lanes) (D.state disk) (D.state result.disk) result.status (K.written out.old) (K.written out.new) }
     ensures generates { (start count lanes : ℕ) → command_in words.now ≡ Some (gen start count lanes) → GensWell (numbers start count lanes) (K.faults out.old, K.faults out.new) (D.state disk) (D.state result.disk) result.status (K.written out.old) (K.written out.new) }
     ensures generates_any { (start count lanes : ℕ) → command_in words.now ≡ Some (gen start count lanes) → GensAny (numbers start count lanes) (K.faults out.old, K.faults out.new) (D.state disk) (D.state result.disk) result.status (K.written out.old) (K.written out.new) }
 
-    // Status 7 comes for a log alone that is not sound; with 0 and 8 the chain was found.
+    // Where the disk tells its bytes, status 7 comes for a log alone that is not sound, and with 0 and 8 the chain was found.
     ensures damaged { result.status ≡ 7 → IsUnsoundLog (D.state disk) }
     ensures opened { OneOf (0 ∷ 8 ∷ []) result.status → IsOpenedLog (D.state disk) }
 

@@ -8,3 +8,10 @@ pub mod Live
 pub mod Logs
 pub mod MergeTheorem
 pub mod AnyTheorem
+pub mod KeyBounds
+pub mod Trees
+pub mod Buckets
+pub mod Gathered
+pub mod Rooms
+pub mod Found
+pub mod Dumped

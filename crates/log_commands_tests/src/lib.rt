@@ -2,6 +2,10 @@
 #![tactic(auto)]
 
 #[cfg(test)]
+mod dump_fixtures;
+#[cfg(test)]
+mod dump_tests;
+#[cfg(test)]
 mod fixtures;
 #[cfg(test)]
 mod tests;

@@ -13,4 +13,4 @@ run_cached-ran-requires-clause-ready g c κs within =
 pub returns-in-Ok-clause-ok : goal.returns-in-Ok-clause-ok
 returns-in-Ok-clause-ok g c =
     runs_from c.args.options.now c.args.script.now (g.D.LogDisk.state c.args.disk) c.args.chain c.run_cached-ran.result.0 c.in-Ok.room c.run_cached-ran.result.1 c.in-Ok.ensures.made c.counts-made.ensures.whole c.in-Ok.ensures.stands
-    c.run_cached-ran.ensures.run c.run_cached-ran.ensures.entry
+    c.run_cached-ran.ensures.run

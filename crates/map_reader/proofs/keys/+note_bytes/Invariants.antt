@@ -1,5 +1,0 @@
-use Rattle.std.proofs.Common.{length}
-use Rattle.map_reader.proofs.keys.+note_bytes.Given as goal
-
-abbrev pub decreases-note_bytes : goal.decreases-note_bytes
-decreases-note_bytes l = length l.bytes.now

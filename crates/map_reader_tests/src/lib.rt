@@ -1,7 +1,0 @@
-//! The tests of `map_reader`. They stand in a crate of their own, since a crate with tests is proved once more with them.
-#![tactic(auto)]
-
-#[cfg(test)]
-mod fixtures;
-#[cfg(test)]
-mod tests;

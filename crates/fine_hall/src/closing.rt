@@ -101,6 +101,7 @@ fn take_views<R: Drop, B: Drop, V: Drop>(
     ensures taken { IsTakenTo (slots_filled closed.new.slots) (slots_len closed.new.slots) to }
     ensures same { (slots_items closed.new.slots ≡ slots_items closed.old.slots) × (slots_len closed.new.slots ≡ slots_len closed.old.slots) }
     ensures views { back.new.items ≡ back.old.items ++ views_from (slots_items closed.old.slots) from (to - from) }
+    ensures room { vec_capacity back.new ≡ vec_capacity back.old }
 {
     for k in from..to {
         keep_view(closed.take(k), back);
@@ -118,6 +119,7 @@ fn unload<R: Drop, B: Drop, V: Drop>(
     requires spare { vec_len back.old + length (views_from (slots_items closed.slots) 257 (3 * seats)) ≤ vec_capacity back.old }
     ensures room { HoldsRoom result (slots_items closed.slots) }
     ensures views { back.new.items ≡ back.old.items ++ views_from (slots_items closed.slots) 257 (3 * seats) }
+    ensures capacity { vec_capacity back.new ≡ vec_capacity back.old }
 {
     let end = PLACES + 3 * seats;
     drop_slots(&mut closed, 0, ROOM);
@@ -134,7 +136,7 @@ impl<R: RoomLaw + Drop, B: BucketLaw + Drop, V: ViewLaw + Drop> Hall<R, B, V> {
     ghost use Rattle.fine_hall.specs.Halls.{IsPassOf, begun, AreAll, Closes};
 
     /// Ends the hall with all its passes, which hold nothing, and hands out the room. The fronts and the middles come back behind what is
-    /// in the list, which has room for two views a seat. The buckets are dropped. It takes no memory, and cannot fail.
+    /// in the list, which has room for two views a seat and does not grow. The buckets are dropped. It takes no memory, and cannot fail.
     ///
     /// There is one list of turns, which begins with what each pass saw, and of which what each pass added is its own part; the room
     /// stands for it. The board of the room names the views, each once, and no others. The counts of faults of the room and the views
@@ -146,6 +148,7 @@ impl<R: RoomLaw + Drop, B: BucketLaw + Drop, V: ViewLaw + Drop> Hall<R, B, V> {
         requires some_pass { 0 < length passes.items }
         requires spare { vec_len back.old + 2 * (begun R.state R.origin V.state self).seats ≤ vec_capacity back.old }
         ensures closes { (views : List V.row.Denot) × (back.new.items ≡ back.old.items ++ views) × Closes R.state R.origin R.stands_for V.state (begun R.state R.origin V.state self) passes.items views result }
+        ensures capacity { vec_capacity back.new ≡ vec_capacity back.old }
     {
         let HallTable { table } = self;
         let seats = passes.len();

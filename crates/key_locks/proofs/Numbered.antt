@@ -133,10 +133,10 @@ module _ {T : Type 0} where
 
   -- ---- the list of numbers goes with the places
 
-  none_filled : (n : ℕ) → n ≡ 256 → (room : ℕ) → 256 ≤ room → AreNumbered {T = T} (replicate n None) [] room
+  none_filled : (n : ℕ) → n ≡ 256 → (room : ℕ) → room ≡ 256 → AreNumbered {T = T} (replicate n None) [] room
   none_filled n is room reserved = record { all = size_of_none T n ∙ is; once = λ k. times-none k ∙ sym (nowhere T n k); as_many = sym (no_filled T n); reserved = reserved }
 
-  pub new_numbered : (n : ℕ) (places : List (Option T)) (numbers : List ℕ) (room : ℕ) → n ≡ 256 → places ≡ replicate n None → numbers ≡ [] → 256 ≤ room → AreNumbered places numbers room
+  pub new_numbered : (n : ℕ) (places : List (Option T)) (numbers : List ℕ) (room : ℕ) → n ≡ 256 → places ≡ replicate n None → numbers ≡ [] → room ≡ 256 → AreNumbered places numbers room
   new_numbered n places numbers room is all none reserved = subst (λ l. AreNumbered {T = T} l numbers room) (sym all) (subst (λ m. AreNumbered {T = T} (replicate n None) m room) (sym none) (none_filled n is room reserved))
 
   pub space_left : (places : List (Option T)) (numbers : List ℕ) (room k : ℕ) → AreNumbered places numbers room → IsEmpty places k → length numbers < room

@@ -33,12 +33,17 @@ module _ {T : Type 0} where
   abbrev pub AreCounted : List ℕ → List (Option T) → Type 0
   AreCounted numbers places = (k : ℕ) → times k numbers ≡ here (slice_get places k)
 
-  -- There are 256 places. The list has the number of each filled one once, and no other, and room for all.
+  -- There are 256 places. The list has the number of each filled one once, and no other, and memory for just 256.
   pub record AreNumbered (places : List (Option T)) (numbers : List ℕ) (room : ℕ) : Type 0 where
     pub all : length places ≡ 256
     pub once : AreCounted numbers places
     pub as_many : length numbers ≡ number_filled places
-    pub reserved : 256 ≤ room
+    pub reserved : room ≡ 256
+
+  -- And the places have memory for just 256 too, so that both lists are as long in memory as they were made.
+  pub record AreReserved (places : List (Option T)) (numbers : List ℕ) (of_places of_numbers : ℕ) : Type 0 where
+    pub numbered : AreNumbered places numbers of_numbers
+    pub kept : of_places ≡ 256
 
   -- the place was filled, and is empty; all else is as it was
   pub record Empties (places places' : List (Option T)) (k : ℕ) (x : T) : Type 0 where

@@ -1,6 +1,6 @@
 //! Values in places by number, with the numbers of the places that are filled.
 
-ghost use Rattle.std.specs.Prelude.{◌≡◌, ◌<◌, ℕ, IfOk, MatchBool, MatchOption, None, Some, length, replicate, slice_get, slice_set};
+ghost use Rattle.std.specs.Prelude.{◌≡◌, ◌<◌, ℕ, IfOk, MatchBool, MatchOption, None, Some, length, replicate, slice_get, slice_set, vec_capacity};
 ghost use Rattle.std.specs.Option.{option_copied_mut};
 ghost use Rattle.std.specs.Borrow.{sem};
 ghost use Rattle.key_locks.specs.Lent.{LendsFilled, LendsPlace, LendsValue};
@@ -25,13 +25,13 @@ pub(crate) struct Slots<T> {
 
 impl<T> Model for Slots<T> {
     ghost use Rattle.std.specs.Prelude.{List, Option, vec_capacity};
-    ghost use Rattle.key_locks.specs.Slots.{AreNumbered};
+    ghost use Rattle.key_locks.specs.Slots.{AreReserved};
 
     ghost Value = { List (Option T) };
 
     ghost view = { λ s. s.places.items };
 
-    ghost invariant = { λ s. AreNumbered s.places.items s.filled.items (vec_capacity s.filled) };
+    ghost invariant = { λ s. AreReserved s.places.items s.filled.items (vec_capacity s.places) (vec_capacity s.filled) };
 }
 
 impl<T: Drop> Slots<T> {
@@ -127,6 +127,7 @@ fn change_each<T: Drop, F: Fn(&mut T)>(places: &mut Vec<Option<T>>, numbers: &[u
     requires callable { F.IsAlwaysCallable change.now }
     requires counted { AreCounted numbers.now places.old.items }
     ensures size { length places.new.items ≡ length places.old.items }
+    ensures capacity { vec_capacity places.new ≡ vec_capacity places.old }
     ensures each { EachBy (LeavesAt F.Fn change.now) places.old.items places.new.items }
 {
     let mut left = numbers;
@@ -139,7 +140,8 @@ fn change_each<T: Drop, F: Fn(&mut T)>(places: &mut Vec<Option<T>>, numbers: &[u
 fn change_at<T: Drop, F: Fn(&mut T)>(places: &mut Vec<Option<T>>, number: usize, change: &F)
     requires callable { F.IsAlwaysCallable change.now }
     requires filled { (x : T) × IsFilled places.old.items number x }
-    ensures { ChangesAt (LeavesAt F.Fn change.now) number places.old.items places.new.items }
+    ensures changes { ChangesAt (LeavesAt F.Fn change.now) number places.old.items places.new.items }
+    ensures capacity { vec_capacity places.new ≡ vec_capacity places.old }
 {
     change(filled_in(&mut places[number]));
 }

@@ -63,4 +63,5 @@ returns g c = let a = c.gather-seat.ensures.all in
         c.unload.ensures.views ∙ ((λ i. a.fronts i ++ views_from (slots_items c.shut.result.slots) 257 (3 * is i)) ∙ append_assoc c.args.back.now.items (fronts_of a.done) (views_from (slots_items c.shut.result.slots) 257 (3 * seats))),
         all,
       );
+      capacity = c.unload.ensures.capacity ∙ c.gather-seat.ensures.room.0;
     }

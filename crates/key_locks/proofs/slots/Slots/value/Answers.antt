@@ -4,7 +4,7 @@ use Rattle.key_locks.proofs.Numbered.{rewritten_now, value_there}
 use Rattle.key_locks.proofs.slots.Slots.value.Goals as goal
 
 pub invariant_of-self-lent : goal.invariant_of-self-lent
-invariant_of-self-lent g c = λ w. rewritten_now c.self.inside.places.items c.args.self.now c.self.inside.filled.items (vec_capacity c.self.inside.filled) c.from.result c.args.number c.requires.filled.1.0 w (Some w) c.self.invariant c.self.view_is c.requires.filled.1.1 c.from.ensures refl
+invariant_of-self-lent g c = λ w. record { kept = c.self.invariant.kept; numbered = rewritten_now c.self.inside.places.items c.args.self.now c.self.inside.filled.items (vec_capacity c.self.inside.filled) c.from.result c.args.number c.requires.filled.1.0 w (Some w) c.self.invariant.numbered c.self.view_is c.requires.filled.1.1 c.from.ensures refl }
 
 pub returns : goal.returns
 returns g c = (

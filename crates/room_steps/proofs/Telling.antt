@@ -1,7 +1,8 @@
 -- What faults tell behind a step.
-use Rattle.std.proofs.Common.{◌∙◌, ℕ, ◌+◌, ◌≤◌, min, List, inl, inr, Option, refl, ap, arith}
+use Rattle.std.proofs.Common.{◌∙◌, ℕ, ◌+◌, ◌≤◌, min, List, inl, inr, Option, refl, sym, ap, subst, arith}
 use Rattle.fine_model.specs.declared.RunFault.{RunFault}
 use Rattle.fine_model.specs.declared.RunFault.TheVariants as run_fault
+use Rattle.fine_model.specs.Damages.{IsPlaceOrNode}
 use Rattle.fine_model.specs.Faults.{last_count}
 use Rattle.fine_model.specs.History.{Commit}
 use Rattle.epoch_room.specs.Value.{RoomValue}
@@ -42,7 +43,7 @@ module _ (old new : ShelfValue) (entry : RoomValue) (history : List Commit) (end
   by_fault run_fault.Disk (inr f) now = failed f now
   by_fault run_fault.Memory w now = from (total new) run_fault.Memory w.none_failed.count now tt (omega arith) (let e = w.none_failed.own in omega (arith, e))
   by_fault (run_fault.Damaged what) (w, place) now =
-      from (total new) (run_fault.Damaged what) w.none_failed.count now (refl, w.none_failed.shut, place.unsound entry history g) (omega arith) (let e = w.none_failed.own in omega (arith, e))
+      from (total new) (run_fault.Damaged what) w.none_failed.count now (refl, w.none_failed.shut, subst IsPlaceOrNode (sym place.is) tt, place.unsound entry history g) (omega arith) (let e = w.none_failed.own in omega (arith, e))
 
 pub told_with : ToldWith
 told_with old new entry history ended after told more fault ready g f now t = by_fault old new entry history ended after told more ready g t fault f now

@@ -13,6 +13,7 @@ use Rattle.fine_model.specs.declared.Why.{Why}
 use Rattle.fine_model.specs.declared.Why.TheVariants as why
 use Rattle.fine_model.specs.declared.law.RoomState.{RoomState}
 use Rattle.fine_model.specs.Buckets.{Began}
+use Rattle.fine_model.specs.Damages.{IsPlaceOrNode}
 use Rattle.fine_model.specs.Faults.{last_count}
 use Rattle.fine_model.specs.History.{Commit, all_rows, upto}
 use Rattle.fine_model.specs.Nodes.{Agrees}
@@ -280,9 +281,9 @@ module _ (old seen : Body) (view : ViewValue) (Clean : Type 0) (Failing : FetchF
           low = subst (λ s. count_of old ≤ total s) (sym shelf_is) through.no_lower
 
       -- damage, which no failed call told
-      by_damage : (group : ℕ) (what : Damage) → Clean → ((entry : RoomValue) (history : List Commit) → IsReady entry → Goes entry old history → Stand entry old history → OfSound entry (λ first e. ⊥))
+      by_damage : (group : ℕ) (what : Damage) → IsPlaceOrNode what → Clean → ((entry : RoomValue) (history : List Commit) → IsReady entry → Goes entry old history → Stand entry old history → OfSound entry (λ first e. ⊥))
           → Answers group old new d calls (Err (run_fault.Damaged what))
-      by_damage group what clean unsound = by_fault group (run_fault.Damaged what) (λ entry history ready g stand. (is_clean.count, is_clean.shut, unsound entry history ready g stand))
+      by_damage group what placed clean unsound = by_fault group (run_fault.Damaged what) (λ entry history ready g stand. (is_clean.count, is_clean.shut, placed, unsound entry history ready g stand))
         where
           is_clean : IsClean (shelf_of old) (shelf_of new)
           is_clean = subst (IsClean (shelf_of old)) (sym shelf_is) (through.clean clean)
@@ -299,14 +300,14 @@ module _ (old seen : Body) (view : ViewValue) (Clean : Type 0) (Failing : FetchF
               (refuses (origin_of entry.entry) old.room.room.sealed history (is_ready entry history ready g stand)).cause e first began)
           by (Number id) refuses group clean fails = by_reason group why.Number (λ (e : why.Number ≡ why.Full). let x = e in cc) clean (λ entry history ready g stand first e began stands.
               inl ((refuses (origin_of entry.entry) old.room.room.sealed history (is_ready entry history ready g stand)).cause e first began))
-          by (Unfit id) refuses group clean fails = by_damage group (damage.Node id) clean (λ entry history ready g stand first e began stands.
+          by (Unfit id) refuses group clean fails = by_damage group (damage.Node id) tt clean (λ entry history ready g stand first e began stands.
               (refuses (origin_of entry.entry) old.room.room.sealed history (is_ready entry history ready g stand)).cause e first began)
           by NoMemory refuses group clean fails = by_fault group run_fault.Memory (λ entry history ready g stand. tt)
           by (Source fetch_fault.NoMemory) refuses group clean fails = by_fault group run_fault.Memory (λ entry history ready g stand. tt)
           by (Source fetch_fault.Failed) refuses group clean fails = by_fault group run_fault.Disk (λ entry history ready g stand.
               subst (λ s. Fails (shelf_of old) fetch_fault.Failed s) (sym shelf_is) (through.fails fetch_fault.Failed fails))
-          by (Source (fetch_fault.BadRow region at)) refuses group clean fails = by_damage group (damage.Region region at) clean (λ entry history ready g stand. bad (through.fails (fetch_fault.BadRow region at) fails).0 entry history g)
-          by (Source (fetch_fault.BadIndex region at)) refuses group clean fails = by_damage group (damage.Region region at) clean (λ entry history ready g stand. bad (through.fails (fetch_fault.BadIndex region at) fails).0 entry history g)
+          by (Source (fetch_fault.BadRow region at)) refuses group clean fails = by_damage group (damage.Region region at) tt clean (λ entry history ready g stand. bad (through.fails (fetch_fault.BadRow region at) fails).0 entry history g)
+          by (Source (fetch_fault.BadIndex region at)) refuses group clean fails = by_damage group (damage.Region region at) tt clean (λ entry history ready g stand. bad (through.fails (fetch_fault.BadIndex region at) fails).0 entry history g)
 
 -- ---- the nodes that are cached did not do
 

@@ -24,7 +24,7 @@ use Rattle.open_txn.specs.Buckets.{BucketsValue, StandAll}
 use Rattle.open_txn.specs.Opened.{AbortLaw, FollowsLaw, IsOpen, IsToUndo}
 use Rattle.room_steps.specs.Steps.{MakesOr}
 use Rattle.run_laws.specs.Going.{Commits}
-use Rattle.run_laws.specs.Needs.{EndsInNeed, HadNeedBefore, IsInNeed}
+use Rattle.run_laws.specs.Needs.{EndsInNeed, IsInNeed}
 use Rattle.run_laws.specs.Runs.{IsReady, OfSound}
 use Rattle.run_laws.specs.SoFar.{AreFewSoFar, AreTold, GoesOn, KeepsFlag}
 use Rattle.run_laws.specs.Turns.{RefusesBehind}
@@ -216,11 +216,8 @@ module _ (abort : AbortLaw) (follows : FollowsLaw) (group : ℕ) (old made : Bod
 
     -- the rows are those that the calls push
     had_need : result ≡ Ok (Some why.Full) → old.full ≡ false → WasInNeed group entry old history → HadNeedOf group entry history d.calls
-    had_need is not n first e began stands rows pushed = subst (λ rows. HadNeedBefore entry.room.region_len group entry.room.sealed history rows) same
-        (needs.had_need group entry history (cost d.rows) old made result m g.goes.room n.0 is not n.1 d.rows refl)
-      where
-        same : d.rows ≡ rows
-        same = let x : ◌≡◌ {A = Result (List Row) Why} (Ok d.rows) (Ok rows) = sym (open_now.answered e first began).is_pushed ∙ pushed in cc
+    had_need is not n first e began stands =
+        let had = needs.had_need group entry history (cost d.rows) old made result m g.goes.room n.0 is not n.1 d.rows refl in (d.rows, (open_now.answered e first began).is_pushed, had.0, had.1)
 
     marks_refused : (word : Why) → result ≡ Ok (Some word) → MakesOr (cost d.rows) (shelf_of old) (shelf_of made) old.full made.full (Ok (Some word)) → MarksFull group entry old new history d.calls (outcome.Refused word)
     marks_refused word is makes = record {

@@ -1,6 +1,7 @@
 -- What epochs were sealed for, by the steps of a transaction.
 use Rattle.std.proofs.Common.{◌≡◌, ◌⊎◌, inl, inr, ⊎_elim, ℕ, ◌+◌, ◌<◌, ◌≤◌, ◌==◌, true, false, List, [], ◌∷◌, ◌++◌, length, refl, sym, ap, ◌∙◌, subst, true≢false, Option, Some, None, Ok, Err, arith}
 use Rattle.std.specs.Prelude.{Result, count_by}
+use Rattle.std.proofs.lemmas.Bool.{cases_lt}
 use Rattle.std.proofs.lemmas.List.Sums.{length-filter}
 use Rattle.fine_model.specs.declared.Row.{Row}
 use Rattle.fine_model.specs.declared.RunFault.{RunFault}
@@ -8,7 +9,7 @@ use Rattle.fine_model.specs.declared.RunFault.TheVariants as run_fault
 use Rattle.fine_model.specs.declared.Why.{Why}
 use Rattle.fine_model.specs.declared.Why.TheVariants as why
 use Rattle.fine_model.specs.declared.law.RoomState.{RoomState}
-use Rattle.fine_model.specs.Causes.{used_in}
+use Rattle.fine_model.specs.Causes.{HadNeedBefore, used_in}
 use Rattle.fine_model.specs.History.{Commit, last_epoch}
 use Rattle.fine_model.specs.Merge.{cost}
 use Rattle.fine_model.specs.Outcomes.{EpochsFollow}
@@ -23,8 +24,8 @@ use Rattle.epoch_room.specs.declared.answers.Fit.TheVariants as fit
 use Rattle.room_shelf.specs.Shelves.{ShelfValue}
 use Rattle.room_steps.specs.Merging.{is_epoch_full}
 use Rattle.room_steps.specs.Steps.{ByFit, MakesOr}
-use Rattle.room_steps.proofs.Fitting.{is_long, no_region, not_last, some_wait, tests_of}
-use Rattle.run_laws.specs.Needs.{EndsInNeed, HadNeed, HadNeedBefore, HasNoRegion, IsInNeed, IsSealed, Unsealed}
+use Rattle.room_steps.proofs.Fitting.{Alone, alone_fits, is_long, no_region, not_last, some_wait, tests_of}
+use Rattle.run_laws.specs.Needs.{EndsInNeed, HadNeed, HasNoRegion, IsInNeed, IsSealed, Unsealed}
 use Rattle.run_laws.specs.SoFar.{GoesOn}
 use Rattle.run_laws.proofs.Needs.{need_commits, need_ends, need_sealed, need_stays, need_still}
 use Rattle.txn_runner.specs.Body.{Body, shelf_of}
@@ -122,19 +123,30 @@ module _ (group : ℕ) (entry : RoomValue) (history : List Commit) where
           by (inl nothing) = inl nothing
           by (inr above) = of_need (ends none above)
 
+      -- the rows fit a region alone
+      fits_alone : Alone old.room.room need → (rows : List Row) → cost rows ≡ need → short_header + cost rows ≤ entry.room.region_len
+      fits_alone a rows costs = by (cases_lt old.room.room.region_len (short_header + need))
+        where
+          by : (old.room.room.region_len < short_header + need) ⊎ (short_header + need ≤ old.room.room.region_len) → short_header + cost rows ≤ entry.room.region_len
+          by (inl long) = absurd (alone_fits old.room need g.whole a.alone long)
+          by (inr fits) = let l : old.room.room.region_len ≡ entry.room.region_len = g.becomes.region_len in let k = costs in omega (arith, l, k, fits)
+
       -- where it is refused as full first, the epoch before was sealed in need
-      pub had_need : result ≡ Ok (Some why.Full) → old.full ≡ false → EndsInNeed group entry old.room old.full history → (rows : List Row) → cost rows ≡ need → HadNeedBefore entry.room.region_len group entry.room.sealed history rows
+      pub had_need : result ≡ Ok (Some why.Full) → old.full ≡ false → EndsInNeed group entry old.room old.full history → (rows : List Row) → cost rows ≡ need
+          → (short_header + cost rows ≤ entry.room.region_len) × HadNeedBefore entry.room.region_len group entry.room.sealed history rows
       had_need is not ends rows costs = by (fit_of old.room.room need) refl m.makes.by_fit
         where
-          by : (f : Fit) → fit_of old.room.room need ≡ f → ByFit old.full (shelf_of old) (shelf_of made) result f → HadNeedBefore entry.room.region_len group entry.room.sealed history rows
+          by : (f : Fit) → fit_of old.room.room need ≡ f → ByFit old.full (shelf_of old) (shelf_of made) result f
+              → (short_header + cost rows ≤ entry.room.region_len) × HadNeedBefore entry.room.region_len group entry.room.sealed history rows
           by fit.Fits f b = absurd (let x : ◌≡◌ {A = Result (Option Why) RunFault} (Ok (Some why.Full)) (Ok None) = sym is ∙ b.1 in cc)
           by (fit.Shut epoch) f b = absurd (let x : ◌≡◌ {A = Result (Option Why) RunFault} (Ok (Some why.Full)) (Err run_fault.Disk) = sym is ∙ b.1 in cc)
           by (fit.Number epoch place) f b = absurd (let x : ◌≡◌ {A = Result (Option Why) RunFault} (Ok (Some why.Full)) (Ok (Some why.Number)) = sym is ∙ b.1 in cc)
           by (fit.TooLarge needed most) f b = absurd (let x : ◌≡◌ {A = Result (Option Why) RunFault} (Ok (Some why.Full)) (Ok (Some why.Large)) = sym is ∙ b.1 in cc)
           by (fit.Full free live retired) f b =
-              let t = tests_of old.room.room need (fit.Full free live retired) f in had_none (no_region old.room.room g.no_job t.1).none_waits (not_last old.room.room t.0.left) not ends rows
+              let t = tests_of old.room.room need (fit.Full free live retired) f in (fits_alone t.0 rows costs, had_none (no_region old.room.room g.no_job t.1).none_waits (not_last old.room.room t.0.left) not ends rows)
           by (fit.EpochFull needed most) f b =
-              had_some (some_wait old.room need g.whole (ap is_epoch_full f)) (is_long old.room.room need (tests_of old.room.room need (fit.EpochFull needed most) f).1) rows costs
+              let t = tests_of old.room.room need (fit.EpochFull needed most) f in
+              (fits_alone t.0 rows costs, had_some (some_wait old.room need g.whole (ap is_epoch_full f)) (is_long old.room.room need t.1) rows costs)
 
       -- where they fit, the log was not full
       module _ (ok : MakesOr need (shelf_of old) (shelf_of made) old.full made.full (Ok None)) where

@@ -9,7 +9,6 @@ use Rattle.fine_model.specs.declared.FetchFault.{FetchFault}
 use Rattle.fine_model.specs.declared.FetchFault.TheVariants as fetch_fault
 use Rattle.fine_model.specs.declared.Outcome.{Outcome}
 use Rattle.fine_model.specs.declared.Outcome.TheVariants as outcome
-use Rattle.fine_model.specs.declared.Row.{Row}
 use Rattle.fine_model.specs.declared.RunFault.{RunFault}
 use Rattle.fine_model.specs.declared.RunFault.TheVariants as run_fault
 use Rattle.fine_model.specs.declared.ScriptTxn.{ScriptTxn}
@@ -17,9 +16,9 @@ use Rattle.fine_model.specs.declared.Why.{Why}
 use Rattle.fine_model.specs.declared.Why.TheVariants as why
 use Rattle.fine_model.specs.Becomes.{Becomes}
 use Rattle.fine_model.specs.Boards.{is_empty}
+use Rattle.fine_model.specs.Causes.{IsRefusedInNeed}
 use Rattle.fine_model.specs.History.{Commit, all_rows}
 use Rattle.fine_model.specs.Outcomes.{IsOutcomeOf}
-use Rattle.fine_model.specs.Pushed.{all_pushed}
 use Rattle.btree_nodes.specs.declared.fault.TreeFault.{TreeFault}
 use Rattle.btree_nodes.specs.declared.fault.TreeFault.TheVariants.{BucketFull, NoMemory, Number, Source, Unfit}
 use Rattle.txn_draft.specs.Drafts.{DraftValue, entry_of}
@@ -34,7 +33,7 @@ use Rattle.open_txn.specs.Opened.{AnswersCalls, IsOpen, SettlesAll, UndoesAll}
 use Rattle.room_steps.specs.Laws.{TellsNow}
 use Rattle.room_steps.specs.Steps.{MakesRoom}
 use Rattle.run_laws.specs.Lanes.{EndsLane, with_last}
-use Rattle.run_laws.specs.Needs.{EndsInNeed, HadNeedBefore, IsInNeed, IsSealed, RunsInNeed, Unsealed}
+use Rattle.run_laws.specs.Needs.{EndsInNeed, IsInNeed, IsSealed, RunsInNeed, Unsealed}
 use Rattle.run_laws.specs.Runs.{IsReady, IsReplied, OfSound}
 use Rattle.run_laws.specs.SoFar.{AreFewSoFar, AreTold, ComesNext, GoesOn, KeepsFlag}
 use Rattle.run_laws.specs.Turns.{AreNumbered, RefusesBehind, commits_of}
@@ -139,10 +138,9 @@ pub record LeavesFault (group : ℕ) (entry : RoomValue) (old new : Body) (histo
   pub told : TellsWith entry new fault
   pub full : new.full ≡ old.full
 
--- on a sound log the epoch before what calls push behind a history was sealed in need
+-- on a sound log, what calls push behind a history fits a region alone, and the epoch before was sealed in need
 abbrev pub HadNeedOf : ℕ → RoomValue → List Commit → List Call → Type 0
-HadNeedOf group entry history calls =
-    OfSound entry (λ first e. (rows : List Row) → all_pushed (first ++ all_rows history) calls ≡ Ok rows → HadNeedBefore entry.room.region_len group entry.room.sealed history rows)
+HadNeedOf group entry history calls = OfSound entry (λ first e. IsRefusedInNeed entry.room.region_len group entry.room.sealed first history calls)
 
 -- The flag of a full log with an outcome, and the need of the first transaction that is refused as full.
 pub record MarksFull (group : ℕ) (entry : RoomValue) (old new : Body) (history : List Commit) (calls : List Call) (next : Outcome) : Type 0 where

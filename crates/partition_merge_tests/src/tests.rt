@@ -10,10 +10,10 @@ ghost use Rattle.partition_merge.specs.Mergers.{AreKept, older_part, newer_part}
 use fine_model::{
     Bytes, Copied, FetchFault, Header, Items, NoMemory, NodeId, Part, Rec, Row, Rows,
 };
-use fine_model_tests::ONE_ROW;
 use log_disk::{DiskRefusal, FaultPlan, LogDisk, LogEye, MemDisk, MemEye};
 use node_record::write_row;
 use partition_index::{IndexEntry, entry_bytes};
+use partition_index_tests::ONE_ROW;
 use partition_merge::{Blocks, Measure, Merger, merge_rows};
 use std::alloc::{AllocError, Global};
 use std::test::*;

@@ -1,9 +1,9 @@
 //! What no clause says: that neighbours are gathered where nothing stands against it, and byte for byte what comes out.
 
 use fine_model::{NodeId, Part};
-use fine_model_tests::ONE_ROW;
 use log_disk::{DiskRefusal, FaultPlan, LogDisk, MemDisk};
 use node_record::RowAt;
+use partition_index_tests::ONE_ROW;
 use row_gathering::{Gathered, gather};
 use std::alloc::Global;
 use std::test::Fail;

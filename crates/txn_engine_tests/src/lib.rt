@@ -2,4 +2,6 @@
 #![tactic(auto)]
 
 #[cfg(test)]
+mod seats;
+#[cfg(test)]
 mod tests;

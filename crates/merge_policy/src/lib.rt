@@ -12,6 +12,3 @@ mod young;
 pub use figures::{Measured, Space};
 pub use policy::next_merge;
 pub use young::young_run;
-
-#[cfg(test)]
-mod tests;

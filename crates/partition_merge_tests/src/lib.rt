@@ -1,5 +1,9 @@
-//! The tests of `partition_merge`. They stand in a crate of their own, since a crate with tests is proved once more with them.
+//! The tests of `partition_merge`, `row_gathering` and `merge_policy`. They stand in a crate of their own, since a crate with tests is proved once more with them.
 #![tactic(auto)]
 
+#[cfg(test)]
+mod gathering;
+#[cfg(test)]
+mod policy;
 #[cfg(test)]
 mod tests;

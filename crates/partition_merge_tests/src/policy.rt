@@ -2,8 +2,8 @@
 
 ghost use Rattle.std.specs.Prelude.{◌≡◌};
 
-use crate::{Measured, Space, next_merge, young_run};
 use fine_model::{Header, Mark, Part, Range};
+use merge_policy::{Measured, Space, next_merge, young_run};
 use std::alloc::{AllocError, Global};
 use std::test::Fail;
 

@@ -128,7 +128,8 @@ pub fn fineline<R: Threads + Wait + Sync, S: Source, K: Sink, D: LogDisk, G: Gat
     ensures words { command_in words.now ≡ None → RefusesWords (K.faults out.old, K.faults out.new) (D.state disk) (D.state result.disk) result.status (K.written out.old) (K.written out.new) }
 
     // `run`: what is printed, and why. On a sound log that is told, the printed places order the committed transactions into one history of a sequential store, and every image that a crash could
-    // have left reopens to a prefix of it. Each refusal that is printed has its cause: of one lane behind the commits before it, of several lanes behind some commits. Status 6 tells a failed disk.
+    // have left reopens to a prefix of it. Each refusal that is printed has its cause: of one lane after the commits before it, of several lanes after some commits.
+    // That no number is left, and that the log is full, is told of the log on return. Status 6 tells a failed disk.
     // A run names damage only of a log that is not sound; which place or node it names, no clause says.
     ensures run_ends { (options : Options) → command_in words.now ≡ Some (run options) → Ends options (HasRisen (S.faults script.old) (S.faults script.new)) (S.left script.old) (D.state disk) (D.state result.disk) result.status (K.written out.old) (K.written out.new) }
     ensures run { (options : Options) → command_in words.now ≡ Some (run options) → RunsWell options (S.left script.old) (S.faults script.old, S.faults script.new) (K.faults out.old, K.faults out.new) (D.state disk) (D.state result.disk) result.status (K.written out.old) (K.written out.new) }

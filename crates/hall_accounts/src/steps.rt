@@ -122,11 +122,7 @@ fn end<W: Wait>(rt: &W, hall: &RoomHall<MemDisk>, seat: &mut Seat, keep: usize) 
 /// Commits, and hands the entry out. Where that is refused, what is open stays open, and the answer says why.
 ///
 /// As many wait as the pass saw entries of this epoch, this one included.
-fn commit_now<W: Wait>(
-    rt: &W,
-    hall: &RoomHall<MemDisk>,
-    seat: &mut Seat,
-) -> Result<Committed, Told>
+fn commit_now<W: Wait>(rt: &W, hall: &RoomHall<MemDisk>, seat: &mut Seat) -> Result<Committed, Told>
     requires going { IsGoing hall.now seat.old.txn seat.old.pass }
     ensures going { IsGoing hall.now seat.new.txn seat.new.pass × (seat.new.pass.number ≡ seat.old.pass.number) }
     ensures waits { IfOk result (λ done. done.waiting ≡ count_by (λ c. c.epoch == done.stamp.epoch) (seen seat.new.pass)) }

@@ -82,12 +82,7 @@ fn try_room_now<W: Wait>(rt: &W, alloc: Global, hall: &RoomHall<MemDisk>, seats:
     told_space(try_room(rt, alloc, hall, &mut seats.one.pass, others, 0))
 }
 
-fn try_alone_now<W: Wait>(
-    rt: &W,
-    alloc: Global,
-    hall: &RoomHall<MemDisk>,
-    seat: &mut Seat,
-) -> Told
+fn try_alone_now<W: Wait>(rt: &W, alloc: Global, hall: &RoomHall<MemDisk>, seat: &mut Seat) -> Told
     requires going { IsGoing hall.now seat.old.txn seat.old.pass }
     requires first { seat.old.pass.number ≡ 1 }
     ensures going { IsGoing hall.now seat.new.txn seat.new.pass × (seat.new.pass.number ≡ seat.old.pass.number) }

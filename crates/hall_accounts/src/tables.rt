@@ -87,8 +87,9 @@ fn try_alone_now<W: Wait>(rt: &W, alloc: Global, hall: &RoomHall<MemDisk>, seat:
     requires first { seat.old.pass.number ≡ 1 }
     ensures going { IsGoing hall.now seat.new.txn seat.new.pass × (seat.new.pass.number ≡ seat.old.pass.number) }
 {
-    let mut others = Vec::new(alloc);
-    told_space(try_room(rt, alloc, hall, &mut seat.pass, &mut others, 0))
+    let mut none = Vec::new(alloc);
+    let others = none.as_mut_slice();
+    told_space(try_room(rt, alloc, hall, &mut seat.pass, others, 0))
 }
 
 fn do_act<W: Wait>(

@@ -88,8 +88,8 @@ impl Txn {
     ///
     /// It takes no memory: the places of the buckets stay, and what was given back last is told still. The lists of its answers are new and empty.
     pub fn begin(&mut self, lane: u8, turn: u32)
-        requires blank { IsBlankTxn self.old }
-        ensures begins { self.new ≡ record self.old { draft = blank lane turn } }
+        requires { IsBlankTxn self.old }
+        ensures { self.new ≡ record self.old { draft = blank lane turn } }
     {
         self.draft = Draft::new(self.alloc, lane, turn);
     }

@@ -1,8 +1,11 @@
+use Rattle.std.proofs.Common.{◌∙◌}
+use Rattle.hall_rooms.specs.Rooms.{IsRoomPass}
+use Rattle.hall_accounts.proofs.Begun.{no_case}
 use Rattle.hall_accounts.proofs.Gone.{tries_goes}
 use Rattle.hall_accounts.proofs.tables.try_alone_now.Goals as goal
 
 pub try_room-requires-clause-others : goal.try_room-requires-clause-others
-try_room-requires-clause-others g c κs within = λ i p there. absurd cc
+try_room-requires-clause-others g c κs within = no_case c.as_mut_slice-others.result.now (IsRoomPass c.args.hall.now) (c.as_mut_slice-others.ensures.value ∙ c.new-none.ensures)
 
 pub returns : goal.returns
 returns g c =

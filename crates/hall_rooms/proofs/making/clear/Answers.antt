@@ -1,5 +1,5 @@
 -- Rounds until nothing is retired.
-use Rattle.std.proofs.Common.{◌≡◌, suc, Ok, arith, inl, refl, subst}
+use Rattle.std.proofs.Common.{◌≡◌, ◌+◌, arith, inl, refl, subst}
 use Rattle.hall_rooms.specs.Rooms.{beginning_of}
 use Rattle.hall_rooms.specs.Making.{EndsRound, WholeRounds}
 use Rattle.hall_rooms.proofs.Clearing.{at_round, cleared, job_stays, round_fails, round_more, rounds_more, still_held}
@@ -31,7 +31,7 @@ loop-preserved g c =
       clean = round.turn;
       no_job = job_stays c.loop.room.room new.room e.job i.no_job;
       so_far = round_more x c.args.room.now c.loop.room new i.so_far c.renew_and_erase.new.pass c.renew_and_erase.new.others round;
-      rounds = rounds_more x c.args.room.now c.loop.room new i.so_far c.renew_and_erase.new.pass c.renew_and_erase.new.others c.loop.counter _ (omega arith) i.rounds round;
+      rounds = rounds_more x c.args.room.now c.loop.room new i.so_far c.renew_and_erase.new.pass c.renew_and_erase.new.others c.loop.counter (c.loop.counter + 1) (omega arith) i.rounds round;
       at_round = λ _. at_round x c.args.room.now c.loop.room new c.renew_and_erase.new.pass c.renew_and_erase.new.others i.so_far round;
     }
 

@@ -63,9 +63,6 @@ is_cleared room whole not_shut none_waits none_retired no_job = record {
 
 -- ---- what some rounds leave
 
-chain_none : (room : RoomState) → LeavesChain room room
-chain_none room = record { parts = refl; epochs = (refl, refl) }
-
 chain_then : (a b c : RoomState) → LeavesChain a b → LeavesChain b c → LeavesChain a c
 chain_then a b c s t = record { parts = t.parts ∙ s.parts; epochs = (t.epochs.0 ∙ s.epochs.0, t.epochs.1 ∙ s.epochs.1) }
 

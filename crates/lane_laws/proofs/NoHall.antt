@@ -1,5 +1,5 @@
 -- Where no hall could be made, nothing was run.
-use Rattle.std.proofs.Common.{◌≡◌, ◌⊎◌, inl, inr, ℕ, zero, suc, ◌+◌, ◌-◌, ◌<◌, ◌≤◌, true, false, true≢false, List, [], ◌∷◌, ◌++◌, length, Option, Some, None, refl, sym, ap, ◌∙◌, subst, arith, append-nil}
+use Rattle.std.proofs.Common.{◌≡◌, ◌⊎◌, inl, inr, ℕ, zero, suc, ◌+◌, ◌-◌, ◌≤◌, true, false, true≢false, List, [], ◌∷◌, ◌++◌, length, Option, Some, None, refl, sym, ap, ◌∙◌, subst, arith, append-nil}
 use Rattle.std.specs.Prelude.{replicate, slice_get}
 use Rattle.fine_model.specs.declared.Options.{Options}
 use Rattle.fine_model.specs.declared.Outcome.{Outcome}
@@ -18,7 +18,7 @@ use Rattle.epoch_room.specs.Whole.{IsWhole}
 use Rattle.epoch_room.specs.declared.answers.RoomFault.{RoomFault}
 use Rattle.epoch_room.specs.declared.answers.RoomFault.TheVariants as room_fault
 use Rattle.hall_rooms.specs.Opening.{HandsBack, WhyNoHall}
-use Rattle.run_laws.specs.Runs.{IsReady, OfSound, OwnRose, RunsLanes, RunsScript, TellsFault}
+use Rattle.run_laws.specs.Runs.{IsReady, OwnRose, RunsLanes, RunsScript, TellsFault}
 use Rattle.run_laws.proofs.NoEyes.{no_eyes}
 use Rattle.run_laws.proofs.Nothing.{are_none, none_run, not_refused}
 use Rattle.lane_laws.specs.NoHall.{NoHallLaw, not_run, of_room}
@@ -59,9 +59,6 @@ module _ (old back : RoomValue) (ready : IsReady old) (whole : IsWhole back) (fa
       let d = own_of back whole in
       let f = hands.keeps.becomes.faults in
       let g = hands.keeps.becomes.own_faults in (omega (arith, a, b, f), omega (arith, c, d, g))
-
-  as_many : back.room.faults ≡ old.room.faults → old.disk.faults < back.disk.faults → ⊥
-  as_many same more = let a = faults_of old ready.whole in let b = faults_of back whole in omega (arith, a, b, same, more)
 
   module _ (script : List ScriptTxn) where
     -- why the hall was not made is why the run was not

@@ -1,6 +1,7 @@
 -- Where no hall could be made, nothing was run.
 use Rattle.std.proofs.Common.{◌≡◌, ◌⊎◌, inl, inr, ℕ, zero, suc, ◌+◌, ◌-◌, ◌≤◌, true, false, true≢false, List, [], ◌∷◌, ◌++◌, length, Option, Some, None, refl, sym, ap, ◌∙◌, subst, arith, append-nil}
 use Rattle.std.specs.Prelude.{replicate, slice_get}
+use Rattle.fine_model.specs.declared.Damage.{Damage}
 use Rattle.fine_model.specs.declared.Options.{Options}
 use Rattle.fine_model.specs.declared.Outcome.{Outcome}
 use Rattle.fine_model.specs.declared.Outcome.TheVariants as outcome
@@ -32,6 +33,17 @@ long (suc n) = ap suc (long n)
 -- with as many outcomes as transactions, none is added
 told_all : (script : List ScriptTxn) → all_outcomes script (none_run (length script)) ≡ none_run (length script)
 told_all script = let none : length script - length (none_run (length script)) ≡ 0 = (let n = long (length script) in omega (arith, n)) in ap (λ n. none_run (length script) ++ replicate n outcome.NotRun) none ∙ append-nil (none_run (length script))
+
+-- ---- faults
+
+disk_whole : (what : Damage) → ◌≡◌ {A = Option RunFault} (Some run_fault.Disk) (Some (run_fault.Damaged what)) → ⊥
+disk_whole what is = let e : run_fault.Disk ≡ run_fault.Damaged what = cc in cc
+
+memory_whole : (what : Damage) → ◌≡◌ {A = Option RunFault} (Some run_fault.Memory) (Some (run_fault.Damaged what)) → ⊥
+memory_whole what is = let e : run_fault.Memory ≡ run_fault.Damaged what = cc in cc
+
+memory_disk : ◌≡◌ {A = Option RunFault} (Some run_fault.Memory) (Some run_fault.Disk) → ⊥
+memory_disk is = let e : run_fault.Memory ≡ run_fault.Disk = cc in cc
 
 -- ---- the room that came back
 
@@ -67,16 +79,16 @@ module _ (old back : RoomValue) (ready : IsReady old) (whole : IsWhole back) (fa
       only_risen = λ is. risen why.2;
       where_risen = λ more. inl refl;
       no_lower = no_lower;
-      unsound = λ what is. absurd (let e : run_fault.Disk ≡ run_fault.Damaged what = cc in cc);
+      unsound = λ what is. absurd (disk_whole what is);
       one_each = λ is not. absurd (not (own_risen why.3));
     }
     tells (room_fault.Shut epoch) why = absurd (true≢false (sym why.0 ∙ ready.not_shut))
     tells room_fault.NoMemory why = record {
-      only_risen = λ is. absurd (let e : run_fault.Memory ≡ run_fault.Disk = cc in cc);
+      only_risen = λ is. absurd (memory_disk is);
       where_risen = λ more. inr refl;
       no_lower = no_lower;
-      unsound = λ what is. absurd (let e : run_fault.Memory ≡ run_fault.Damaged what = cc in cc);
-      one_each = λ is. absurd (let e : run_fault.Memory ≡ run_fault.Disk = cc in cc);
+      unsound = λ what is. absurd (memory_whole what is);
+      one_each = λ is. absurd (memory_disk is);
     }
 
     module _ (options : Options) where

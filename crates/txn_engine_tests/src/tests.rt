@@ -388,8 +388,8 @@ fn what_waits_is_told(rt: HostRuntime) -> Result<(), Fail> {
     ends_with(&rt, alloc, &[&table], counts(6, 1, 1, 5, 2))
 }
 
-// Of four parts two are merged and retired. Without the pass of the seat 2 they are held, since its views name them, until that took a new view, and views were
-// posted again; then the next two are merged, which the view of the seat 2 holds in turn.
+// Of four parts two are merged and retired. The view of the seat 2 is of the time when the first of them was the only part: without its pass this one is held, until
+// the pass took a new view, and views were posted again. Then the next two are merged, and both are held by the view that it took.
 #[test]
 fn what_a_view_names_is_held(rt: HostRuntime) -> Result<(), Fail> {
     let alloc = rt.alloc();
@@ -406,7 +406,7 @@ fn what_a_view_names_is_held(rt: HostRuntime) -> Result<(), Fail> {
         Line(Two(Get(2)), Balance(5)),
         Line(Two(Settle), Settled(0)),
         Line(One(Post), Shown(4)),
-        Line(Two(Settle), Settled(2)),
+        Line(Two(Settle), Settled(1)),
         Line(TryAlone, Room(Space::Held)),
         Line(Two(Settle), Settled(0)),
         Line(TryRoom, Room(Space::Made)),

@@ -3,6 +3,7 @@ use Rattle.std.proofs.Common.{◌≡◌, ◌⊎◌, inl, inr, ⊎_elim, ℕ, ◌
 use Rattle.std.specs.Prelude.{is_some, IfOk}
 use Rattle.std.proofs.lemmas.Bool.Decides.{leb_tells}
 use Rattle.fine_model.specs.declared.law.RoomState.{RoomState}
+use Rattle.fine_model.specs.declared.FetchFault.{FetchFault}
 use Rattle.fine_model.specs.declared.FetchFault.TheVariants as fetch_fault
 use Rattle.fine_model.specs.declared.Row.{Row}
 use Rattle.fine_model.specs.Buckets.{Began}
@@ -128,10 +129,8 @@ module _ (seats from : ℕ) (found cleared room : RoomValue) (c : Clears seats f
   once P p = record { cleared = cleared; clears = c; is = p }
 
   pub made : (r : Result Space MergeFault) → MergesClearedOr seats from had cleared room r → MakesOr seats from found room r
-  made (Ok space.Made) m = ⊎_elim
-      (λ (n : MergesAndClears seats from cleared room). inl (once _ n))
-      (λ (n : TriesInVain from cleared room × (had ≡ true)). inr (some_retired found.room (sym is ∙ n.1), once _ n.0))
-      m
+  made (Ok space.Made) (inl n) = inl (once _ n)
+  made (Ok space.Made) (inr n) = inr (some_retired found.room (sym is ∙ n.1), once _ n.0)
   made (Ok space.Enough) m = (not_retired found.room (sym is ∙ m.1), once _ m.0, m.2)
   made (Ok space.Stuck) m = (not_retired found.room (sym is ∙ m.1), once _ m.0, m.2)
   made (Ok space.Waits) m = absurd m
@@ -161,10 +160,8 @@ both_same : (a b c : RoomState) → SameEpochs a b → SameEpochs b c → SameEp
 both_same a b c s t = (t.0 ∙ s.0, t.1 ∙ s.1)
 
 merging_same : (seats from : ℕ) (old new : RoomValue) (fault : RoomFault) → StopsMerging seats from old new fault → SameEpochs old.room new.room
-merging_same seats from old new fault s = ⊎_elim
-    (λ (n : MergesThroughOr from old new (Err (merge_fault.Room fault))). n.leaves.epochs)
-    (λ n. both_same old.room n.0.room new.room n.1.leaves.epochs (stops_same seats n.0 new fault n.2))
-    s
+merging_same seats from old new fault (inl n) = n.leaves.epochs
+merging_same seats from old new fault (inr n) = both_same old.room n.0.room new.room n.1.leaves.epochs (stops_same seats n.0 new fault n.2)
 
 module _ (seats from : ℕ) (found room : RoomValue) where
   -- behind clearing
@@ -174,22 +171,34 @@ module _ (seats from : ℕ) (found room : RoomValue) where
   in_vain_same : (cleared : RoomValue) → TriesInVain from cleared room → SameEpochs cleared.room room.room
   in_vain_same cleared t = t.tries.leaves.epochs
 
+  cleared_same : (cleared : RoomValue) → MergesAndClears seats from cleared room → SameEpochs cleared.room room.room
+  cleared_same cleared n = both_same cleared.room n.merged.room room.room n.merges.leaves.epochs n.clears.chain.epochs
+
+  held_same : (cleared : RoomValue) → MergesAndHolds seats from cleared room → SameEpochs cleared.room room.room
+  held_same cleared n = both_same cleared.room n.merged.room room.room n.merges.leaves.epochs n.left.chain.epochs
+
+  fetch_same : (fault : FetchFault) (cleared : RoomValue) → MergesThroughOr from cleared room (Err (merge_fault.Fetch fault)) → SameEpochs cleared.room room.room
+  fetch_same fault cleared n = n.leaves.epochs
+
+  stop_same : (fault : RoomFault) (cleared : RoomValue) → StopsMerging seats from cleared room fault → SameEpochs cleared.room room.room
+  stop_same fault cleared n = merging_same seats from cleared room fault n
+
+  stopped_same : (fault : RoomFault) → Stops seats found room fault ⊎ OnceCleared seats found (λ cleared. StopsMerging seats from cleared room fault) → SameEpochs found.room room.room
+  stopped_same fault (inl s) = stops_same seats found room fault s
+  stopped_same fault (inr o) = behind (λ cleared. StopsMerging seats from cleared room fault) (stop_same fault) o
+
   pub makes_same : (r : Result Space MergeFault) → MakesOr seats from found room r → SameEpochs found.room room.room
-  makes_same (Ok space.Made) m = ⊎_elim
-      (λ o. behind _ (λ cleared (n : MergesAndClears seats from cleared room). both_same cleared.room n.merged.room room.room n.merges.leaves.epochs n.clears.chain.epochs) o)
-      (λ o. behind _ in_vain_same o.1)
-      m
-  makes_same (Ok space.Enough) m = behind _ in_vain_same m.1
-  makes_same (Ok space.Stuck) m = behind _ in_vain_same m.1
-  makes_same (Ok space.Held) m = ⊎_elim
-      (λ (l : LeavesHeld seats found room). l.chain.epochs)
-      (λ o. behind _ (λ cleared (n : MergesAndHolds seats from cleared room). both_same cleared.room n.merged.room room.room n.merges.leaves.epochs n.left.chain.epochs) o)
-      m
+  makes_same (Ok space.Made) (inl o) = behind (λ cleared. MergesAndClears seats from cleared room) cleared_same o
+  makes_same (Ok space.Made) (inr o) = behind (λ cleared. TriesInVain from cleared room) in_vain_same o.1
+  makes_same (Ok space.Enough) m = behind (λ cleared. TriesInVain from cleared room) in_vain_same m.1
+  makes_same (Ok space.Stuck) m = behind (λ cleared. TriesInVain from cleared room) in_vain_same m.1
+  makes_same (Ok space.Held) (inl l) = l.chain.epochs
+  makes_same (Ok space.Held) (inr o) = behind (λ cleared. MergesAndHolds seats from cleared room) held_same o
   makes_same (Ok space.Waits) m = (ap (λ (v : RoomValue). v.room.sealed) m.1, ap (λ (v : RoomValue). v.room.waiting) m.1)
-  makes_same (Err (merge_fault.Fetch fault)) m = behind _ (λ cleared (n : MergesThroughOr from cleared room (Err (merge_fault.Fetch fault))). n.leaves.epochs) m
-  makes_same (Err (merge_fault.Room room_fault.Disk)) m = ⊎_elim (stops_same seats found room room_fault.Disk) (λ o. behind _ (λ cleared n. merging_same seats from cleared room room_fault.Disk n) o) m.2
+  makes_same (Err (merge_fault.Fetch fault)) m = behind (λ cleared. MergesThroughOr from cleared room (Err (merge_fault.Fetch fault))) (fetch_same fault) m
+  makes_same (Err (merge_fault.Room room_fault.Disk)) m = stopped_same room_fault.Disk m.2
   makes_same (Err (merge_fault.Room (room_fault.Shut epoch))) m = (ap (λ (v : RoomValue). v.room.sealed) m.2, ap (λ (v : RoomValue). v.room.waiting) m.2)
-  makes_same (Err (merge_fault.Room room_fault.NoMemory)) m = ⊎_elim (stops_same seats found room room_fault.NoMemory) (λ o. behind _ (λ cleared n. merging_same seats from cleared room room_fault.NoMemory n) o) m.1
+  makes_same (Err (merge_fault.Room room_fault.NoMemory)) m = stopped_same room_fault.NoMemory m.1
 
 -- nothing waits, and so the open epoch takes no bytes
 pub none_taken : (room : RoomValue) → IsWhole room → room.room.waiting ≡ 0 → (room.room.waiting ≡ 0) × (room.room.used ≡ 0)

@@ -1,5 +1,5 @@
 -- Room is made in a turn: the room is cleared, neighbours are merged, and it is cleared again.
-use Rattle.std.proofs.Common.{◌≡◌, ◌⊎◌, inl, inr, ⊎_elim, ℕ, ◌<◌, ◌≤◌, Bool, true, false, true≢false, ◌++◌, None, Result, Ok, Err, refl, sym, ◌∙◌, subst, arith, length, ap}
+use Rattle.std.proofs.Common.{◌≡◌, ◌⊎◌, inl, inr, ⊎_elim, ℕ, ◌<◌, ◌≤◌, Bool, true, false, true≢false, ◌++◌, None, Result, Ok, Err, refl, sym, ◌∙◌, subst, arith, length, ap, List}
 use Rattle.std.specs.Prelude.{is_some, IfOk}
 use Rattle.std.proofs.lemmas.Bool.Decides.{leb_tells}
 use Rattle.fine_model.specs.declared.law.RoomState.{RoomState}
@@ -64,7 +64,7 @@ module _ (x : Beginning) where
 
   -- whatever was answered, the room may be given back
   pub in_any_turn : (room : RoomValue) (p : RoomPass) (r : Result Space MergeFault) → GoesOn x room p r → (t : TurnNote) × InTurn x room p t
-  in_any_turn room p (Ok made) g = (g.note, g.turn)
+  in_any_turn room p (Ok did) g = (g.note, g.turn)
   in_any_turn room p (Err (merge_fault.Fetch fetch_fault.Failed)) g = (g.note, g.turn)
   in_any_turn room p (Err (merge_fault.Fetch (fetch_fault.BadRow region at))) g = (g.note, g.turn)
   in_any_turn room p (Err (merge_fault.Fetch (fetch_fault.BadIndex region at))) g = (g.note, g.turn)
@@ -114,7 +114,7 @@ module _ (seats from : ℕ) (had : Bool) (old new : RoomValue) where
 
 -- clearing names no place
 pub clears_unread : (seats : ℕ) (P : Type 0) (merged new : RoomValue) (r : Result Space MergeFault) → ClearsMergedOr seats merged new r → OnDamage r P
-clears_unread seats P merged new (Ok made) c = tt
+clears_unread seats P merged new (Ok did) c = tt
 clears_unread seats P merged new (Err (merge_fault.Fetch fault)) c = absurd c
 clears_unread seats P merged new (Err (merge_fault.Room fault)) c = tt
 
@@ -233,7 +233,7 @@ seen_stands x room q r t i gave e first b = subst (Stands room first e) (sym (gi
 module _ (x : Beginning) (found new : RoomValue) (p p₁ q r : RoomPass) (begun : BeginsTurn x p p₁ found) (second : q.number ≡ p₁.number) (third : r.number ≡ q.number) (on : TurnsOn x p₁ q) where
   pub makes_meet : (answer : Result Space MergeFault) (g : GoesOn x new q answer) → GivesRoom new.room None 0 (in_any_turn x new q answer g).0 q r → Failing answer (MeetsSome x p r) (MeetsNone x p r)
   unfolding in_any_turn
-  makes_meet (Ok made) g gave = met_none x found new p p₁ q r begun second third on g.note gave g.none_failed
+  makes_meet (Ok did) g gave = met_none x found new p p₁ q r begun second third on g.note gave g.none_failed
   makes_meet (Err (merge_fault.Fetch fetch_fault.Failed)) g gave = met_some x found new p p₁ q r begun second third on g.note gave g.some_failed
   makes_meet (Err (merge_fault.Fetch (fetch_fault.BadRow region at))) g gave = met_none x found new p p₁ q r begun second third on g.note gave g.none_failed
   makes_meet (Err (merge_fault.Fetch (fetch_fault.BadIndex region at))) g gave = met_none x found new p p₁ q r begun second third on g.note gave g.none_failed

@@ -8,6 +8,7 @@ use Rattle.fine_model.specs.declared.Outcome.TheVariants as outcome
 use Rattle.fine_model.specs.declared.RunFault.{RunFault}
 use Rattle.fine_model.specs.declared.RunFault.TheVariants as run_fault
 use Rattle.fine_model.specs.declared.ScriptTxn.{ScriptTxn}
+use Rattle.fine_model.specs.declared.Why.TheVariants as why
 use Rattle.fine_model.specs.declared.law.RoomState.{RoomState}
 use Rattle.fine_model.specs.Faults.{HasRisen}
 use Rattle.fine_model.specs.History.{Commit}
@@ -75,15 +76,15 @@ module _ (old back : RoomValue) (ready : IsReady old) (whole : IsWhole back) (fa
   module _ (script : List ScriptTxn) where
     -- why the hall was not made is why the run was not
     tells : (f : RoomFault) → WhyNoHall old.room back.room f → TellsFault script (none_run (length script)) old back (Some (of_room f))
-    tells room_fault.Disk why = record {
-      only_risen = λ is. risen why.2;
+    tells room_fault.Disk w = record {
+      only_risen = λ is. risen w.2;
       where_risen = λ more. inl refl;
       no_lower = no_lower;
       unsound = λ what is. absurd (disk_whole what is);
-      one_each = λ is not. absurd (not (own_risen why.3));
+      one_each = λ is not. absurd (not (own_risen w.3));
     }
-    tells (room_fault.Shut epoch) why = absurd (true≢false (sym why.0 ∙ ready.not_shut))
-    tells room_fault.NoMemory why = record {
+    tells (room_fault.Shut epoch) w = absurd (true≢false (sym w.0 ∙ ready.not_shut))
+    tells room_fault.NoMemory w = record {
       only_risen = λ is. absurd (memory_disk is);
       where_risen = λ more. inr refl;
       no_lower = no_lower;
@@ -119,7 +120,7 @@ module _ (old back : RoomValue) (ready : IsReady old) (whole : IsWhole back) (fa
         all_run = λ is. absurd (let e : ◌≡◌ {A = Option RunFault} (Some (of_room fault)) None = is in cc);
         few_each = λ lane e. omega arith;
         in_need = λ one first n began stands e next above is. absurd (let x : ◌≡◌ {A = Option Commit} None (Some next) = is in cc);
-        last_need = λ one first e began stands i txn rows is at pushed. inl refl;
+        last_need = λ one first e began stands i txn is at. absurd (not_refused (length script) i why.Full (subst (λ os. slice_get os i ≡ Some (outcome.Refused why.Full)) (told_all script) is.0));
         durable = refl;
         all_durable = λ to. sealed;
         causes = λ after is first e began stands. record { each = λ i txn word is_txn is_refused. absurd (not_refused (length script) i word (subst (λ os. slice_get os i ≡ Some (outcome.Refused word)) (told_all script) is_refused)) };

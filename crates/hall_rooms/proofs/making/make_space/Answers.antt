@@ -24,16 +24,16 @@ returns-then-counts-ne0-clause-none_open g c = λ other. absurd (other refl)
 pub clear_and_merge-made-requires-clause-none_waits : goal.clear_and_merge-made-requires-clause-none_waits
 clear_and_merge-made-requires-clause-none_waits g c κs within = sym (counted c.args.room.now.room c.counts.result c.counts.ensures.counts).0 ∙ c.if-counts-ne0.false
 
-pub returns-else-counts-ne0-clause-ahead : goal.returns-else-counts-ne0-clause-ahead
-returns-else-counts-ne0-clause-ahead g c = on_renewed _ c.clear_and_merge-made.result c.clear_and_merge-made.ensures.ahead
+pub returns-clause-ahead : goal.returns-clause-ahead
+returns-clause-ahead g c = on_renewed _ c.clear_and_merge-made.result c.clear_and_merge-made.ensures.ahead
 
-pub returns-else-counts-ne0-clause-publishes : goal.returns-else-counts-ne0-clause-publishes
-returns-else-counts-ne0-clause-publishes g c = on_renewed _ c.clear_and_merge-made.result c.clear_and_merge-made.ensures.publishes
+pub returns-clause-publishes : goal.returns-clause-publishes
+returns-clause-publishes g c = on_renewed _ c.clear_and_merge-made.result c.clear_and_merge-made.ensures.publishes
 
-pub returns-else-counts-ne0-clause-same_open : goal.returns-else-counts-ne0-clause-same_open
-returns-else-counts-ne0-clause-same_open g c =
+pub returns-clause-same_open : goal.returns-clause-same_open
+returns-clause-same_open g c =
     open_same c.args.room.now c.clear_and_merge-made.new.room c.counts.ensures.whole c.counts-left.ensures.whole (sym (counted c.args.room.now.room c.counts.result c.counts.ensures.counts).0 ∙ c.if-counts-ne0.false)
     (makes_same (beginning_of c.args.hall.now).seats c.args.from c.args.room.now c.clear_and_merge-made.new.room c.clear_and_merge-made.result c.clear_and_merge-made.ensures.makes)
 
-pub returns-else-counts-ne0-clause-none_open : goal.returns-else-counts-ne0-clause-none_open
-returns-else-counts-ne0-clause-none_open g c = λ other. none_taken c.args.room.now c.counts.ensures.whole (sym (counted c.args.room.now.room c.counts.result c.counts.ensures.counts).0 ∙ c.if-counts-ne0.false)
+pub returns-clause-none_open : goal.returns-clause-none_open
+returns-clause-none_open g c = λ other. none_taken c.args.room.now c.counts.ensures.whole (sym (counted c.args.room.now.room c.counts.result c.counts.ensures.counts).0 ∙ c.if-counts-ne0.false)

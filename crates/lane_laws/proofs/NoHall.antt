@@ -81,6 +81,7 @@ module _ (old back : RoomValue) (ready : IsReady old) (whole : IsWhole back) (fa
       where_risen = λ more. inl refl;
       no_lower = no_lower;
       unsound = λ what is. absurd (disk_whole what is);
+      placed = λ what is. absurd (disk_whole what is);
       one_each = λ is not. absurd (not (own_risen w.3));
     }
     tells (room_fault.Shut epoch) w = absurd (true≢false (sym w.0 ∙ ready.not_shut))
@@ -89,6 +90,7 @@ module _ (old back : RoomValue) (ready : IsReady old) (whole : IsWhole back) (fa
       where_risen = λ more. inr refl;
       no_lower = no_lower;
       unsound = λ what is. absurd (memory_whole what is);
+      placed = λ what is. absurd (memory_whole what is);
       one_each = λ is. absurd (memory_disk is);
     }
 

@@ -72,5 +72,9 @@ one_case {A} a l P is pa i p at = go i (ap (λ (m : List A). get_elem? m i) (sym
     go zero e = subst P (some-injective a p e) pa
     go (suc n) e = absurd (some-ne-none p (sym e))
 
+-- nothing is said of a list of none
+pub no_case : {A : Type 0} (l : List A) (P : A → Type 0) → l ≡ [] → (i : ℕ) (p : A) → get_elem? l i ≡ some p → P p
+no_case {A} l P is i p at = absurd (some-ne-none p (sym (ap (λ (m : List A). get_elem? m i) (sym is) ∙ at)))
+
 pub all_back : {V : Type 0} (n : ℕ) (before after : List (Pass V)) → map (λ (p : Pass V). p.number) after ≡ map (λ (p : Pass V). p.number) before → AreAll n before → AreAll n after
 all_back n before after same = subst (λ (l : List ℕ). IsPermutation l (range_with_len 1 n)) (sym same)

@@ -1,16 +1,19 @@
 -- What a pass committed after each end of a transaction, and what two passes committed on one hall.
-use Rattle.std.proofs.Common.{◌≡◌, ℕ, ◌<◌, ◌≤◌, List, [], ◌∷◌, ◌++◌, All, Option, Some, None, refl, sym, ap, ◌∙◌, subst, append-nil}
+use Rattle.std.proofs.Common.{◌≡◌, ℕ, ◌+◌, ◌==◌, ◌<◌, ◌≤◌, List, [], ◌∷◌, ◌++◌, All, Option, Some, None, refl, sym, ap, ◌∙◌, subst, append-nil}
+use Rattle.std.specs.Prelude.{count_by}
 use Rattle.std.proofs.lemmas.List.{map-append}
 use Rattle.fine_model.specs.declared.Entry.{Entry}
 use Rattle.fine_model.specs.declared.law.RoomState.{RoomState}
 use Rattle.fine_model.specs.Buckets.{Began}
+use Rattle.fine_model.specs.History.{Commit}
 use Rattle.fine_places.specs.History.{by_seat}
 use Rattle.node_cache.specs.Cache.{Cache}
 use Rattle.partition_hold.specs.Views.{ViewValue}
+use Rattle.epoch_room.specs.Steps.{appended}
 use Rattle.epoch_room.specs.Value.{RoomValue}
 use Rattle.fine_hall.specs.declared.law.Beginning.{Beginning}
 use Rattle.fine_hall.specs.Turns.{added, committed, commits}
-use Rattle.fine_hall.specs.Passes.{mine, own_turns}
+use Rattle.fine_hall.specs.Passes.{mine, own_turns, seen}
 use Rattle.fine_hall.specs.Halls.{HallOf, turn_of}
 use Rattle.fine_hall.proofs.Turning.{commits_one}
 use Rattle.hall_rooms.specs.Rooms.{RoomPass}
@@ -20,7 +23,7 @@ use Rattle.txn_draft.specs.Drafts.{entry_of}
 use Rattle.txn_engine.specs.declared.txn.CommitFault.{CommitFault}
 use Rattle.txn_engine.specs.declared.txn.Committed.{Committed}
 use Rattle.txn_engine.specs.declared.txn.Txn.{Txn}
-use Rattle.txn_engine.specs.Txns.{Commits, IsRefused}
+use Rattle.txn_engine.specs.Txns.{Commits, CommitsCounted, IsRefused}
 use Rattle.hall_accounts.specs.declared.transfers.Ended.{Ended}
 use Rattle.hall_accounts.specs.declared.transfers.Ended.TheVariants as ended
 use Rattle.hall_accounts.specs.Doing.{Adds, AreMine, EndsTxn, IsRunOfTwo, IsKept, commit_of, commits_of}
@@ -38,6 +41,14 @@ module _ (p p' : RoomPass) where
 
   pub commit_adds : (x : Beginning) (keep : ℕ) (t t' : Txn) (done : Committed) → Commits x keep t t' p p' done.stamp → done.entry ≡ entry_of t.draft → mine p' ≡ mine p ++ commit_of done ∷ []
   commit_adds x keep t t' done c is = turn_adds x c.found c.room (Some (entry_of t.draft)) done.stamp.epoch c.turn ∙ ap (λ (e : Entry). mine p ++ committed e done.stamp.epoch ∷ []) (sym is)
+
+  -- as many wait as the pass saw entries of this epoch
+  pub waits_are : (x : Beginning) (keep : ℕ) (t t' : Txn) (done : Committed) → CommitsCounted x keep t t' p p' done → done.waiting ≡ count_by (λ (c : Commit). c.epoch == done.stamp.epoch) (seen p')
+  unfolding appended
+  waits_are x keep t t' done c =
+      let a = c.commits.appends in
+      let sealed : c.commits.room.sealed ≡ c.commits.found.sealed = ap (λ (r : RoomState). r.sealed) a.2 ∙ ap (λ (r : RoomState). r.sealed) a.1 in
+      c.waits ∙ (c.counts.waiting ∙ ap (λ n. count_by (λ (c : Commit). c.epoch == n) (seen p')) (ap (λ n. n + 1) sealed ∙ sym c.commits.epoch))
 
   pub refused_none : (x : Beginning) (t t' : Txn) (cause : CommitFault) → IsRefused x t t' p p' cause → mine p' ≡ mine p
   refused_none x t t' cause r = turn_none x r.room r.room r.turn

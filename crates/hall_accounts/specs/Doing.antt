@@ -14,7 +14,8 @@ use Rattle.fine_hall.specs.Passes.{mine}
 use Rattle.hall_rooms.specs.Rooms.{RoomPass}
 use Rattle.txn_engine.specs.declared.txn.Committed.{Committed}
 use Rattle.txn_engine.specs.declared.txn.Txn.{Txn}
-use Rattle.hall_accounts.specs.Going.{IsAtRest, IsFree}
+use Rattle.txn_engine.specs.Txns.{IsBlankTxn}
+use Rattle.hall_accounts.specs.Going.{IsAtRest}
 use Rattle.hall_accounts.specs.declared.transfers.Ended.{Ended}
 use Rattle.hall_accounts.specs.declared.transfers.Ended.TheVariants as ended
 
@@ -34,7 +35,7 @@ Adds p p' (ended.NoPlace cause) = mine p' ≡ mine p
 -- A transaction ended so: the pass is at rest again, the transaction is free, and what it committed was added.
 pub record EndsTxn {Q : Type 0} (hall : HallOf RoomValue Cache ViewValue Q) (t : Txn) (p p' : RoomPass) (end : Ended) : Type 0 where
   pub idle : IsAtRest hall p' × (p'.number ≡ p.number)
-  pub free : IsFree t
+  pub free : IsBlankTxn t
   pub adds : Adds p p' end
 
 -- and so a list keeps it
@@ -55,7 +56,7 @@ pub record IsWorker {Q : Type 0} (hall : HallOf RoomValue Cache ViewValue Q) (p 
 -- a pass at rest and a free transaction, and all commits of the pass, in their order
 pub record KeepsAll {Q : Type 0} (hall : HallOf RoomValue Cache ViewValue Q) (t : Txn) (p : RoomPass) (done : List Committed) : Type 0 where
   pub idle : IsAtRest hall p
-  pub free : IsFree t
+  pub free : IsBlankTxn t
   pub mine : AreMine p done
 
 -- There is one history of two seats, in which each entry has the store's replies, on a log without rows. What each seat committed is what its thread was

@@ -1,22 +1,16 @@
--- A transaction that holds nothing, and a pass in the midst of one.
-use Rattle.std.specs.Prelude.{◌≡◌, ◌≤◌, ℕ, List, []}
+-- A pass at rest, and one in the midst of a transaction.
+use Rattle.std.specs.Prelude.{◌≡◌, ◌≤◌, ℕ, List, [], ◌++◌}
 use Rattle.fine_places.specs.History as places
 use Rattle.node_cache.specs.Cache.{Cache}
 use Rattle.partition_hold.specs.Views.{ViewValue}
 use Rattle.epoch_room.specs.Value.{RoomValue}
-use Rattle.txn_draft.specs.Drafts.{blank}
+use Rattle.fine_boxes.specs.declared.model.Mark.{Mark}
+use Rattle.fine_hall.specs.declared.turn.Turn.{Turn}
 use Rattle.fine_hall.specs.Halls.{HallOf}
-use Rattle.fine_hall.specs.Passes.{own_turns, LacksJob, LacksPlace}
+use Rattle.fine_hall.specs.Passes.{marks, own_turns, LacksJob, LacksPlace}
 use Rattle.hall_rooms.specs.Rooms.{IsIdle, IsRoomPass, RoomPass, beginning_of}
-use Rattle.txn_engine.specs.Txns.{HoldsNone, IsOpenTxn}
+use Rattle.txn_engine.specs.Txns.{IsOpenTxn}
 use Rattle.txn_engine.specs.declared.txn.Txn.{Txn}
-
--- nothing was answered, and no bucket is held
-pub record IsFree (t : Txn) : Type 0 where
-  pub lane : ℕ
-  pub turn : ℕ
-  pub is_blank : t.draft ≡ blank lane turn
-  pub none : HoldsNone t.locks
 
 -- a pass of a hall that holds nothing, and has no merge out
 pub record IsAtRest {Q : Type 0} (hall : HallOf RoomValue Cache ViewValue Q) (p : RoomPass) : Type 0 where
@@ -45,3 +39,7 @@ pub record AreTwo {Q : Type 0} (hall : HallOf RoomValue Cache ViewValue Q) (p q 
 -- it is a pass of the same seat, which had no turn since
 abbrev pub StaysOwn : RoomPass → RoomPass → Type 0
 StaysOwn p p' = (p'.number ≡ p.number) × (own_turns p' ≡ own_turns p)
+
+-- the fronts that it had stay among its marks, behind those that it has since
+abbrev pub KeepsMarks : RoomPass → RoomPass → Type 0
+KeepsMarks p p' = (newer : List (Mark Turn)) × (marks p' ≡ newer ++ marks p)

@@ -4,7 +4,8 @@ ghost use Rattle.std.specs.Prelude.{◌≡◌, ◌≤◌, ◌<◌, ◌*◌, ℕ,
 ghost use Rattle.fine_model.specs.Bounds.{FitsCall};
 ghost use Rattle.fine_hall.specs.Halls.{AreAll};
 ghost use Rattle.hall_rooms.specs.Rooms.{RoomPass, beginning_of};
-ghost use Rattle.hall_accounts.specs.Going.{AreTwo, IsAtRest, IsFree};
+ghost use Rattle.txn_engine.specs.Txns.{IsBlankTxn};
+ghost use Rattle.hall_accounts.specs.Going.{AreTwo, IsAtRest};
 
 use crate::accounts::{put_bytes, put_of};
 use crate::halls::{Two, end_two};
@@ -92,7 +93,7 @@ fn put_often<D: LogDisk, W: Wait>(
     times: u64,
 )
     requires idle { IsAtRest hall.now pass.old }
-    requires free { IsFree txn.old }
+    requires free { IsBlankTxn txn.old }
     ensures idle { IsAtRest hall.now pass.new × (pass.new.number ≡ pass.old.number) }
 {
     for number in 0..times {

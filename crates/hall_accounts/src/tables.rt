@@ -2,7 +2,8 @@
 
 ghost use Rattle.std.specs.Prelude.{◌≡◌, ◌≤◌, [], IfSome, vec_capacity};
 ghost use Rattle.hall_rooms.specs.Rooms.{beginning_of};
-ghost use Rattle.hall_accounts.specs.Going.{AreGoing, AreTwo, IsFree, IsGoing};
+ghost use Rattle.txn_engine.specs.Txns.{IsBlankTxn};
+ghost use Rattle.hall_accounts.specs.Going.{AreGoing, AreTwo, IsGoing, KeepsMarks};
 
 use crate::halls::{Two, end_two, open_two};
 use crate::steps::{Seat, Step, Told, take, take_back};
@@ -14,7 +15,7 @@ use room_merges::MergeFault;
 use std::alloc::Global;
 use std::slice;
 use std::sync::Wait;
-use txn_engine::{RoomHall, Space, Txn, make_room, merge_next, try_room};
+use txn_engine::{RoomHall, Space, Txn, merge_next, try_room};
 
 /// Both seats of a hall.
 #[derive(Drop)]
@@ -32,8 +33,8 @@ pub enum Act {
     Merge,
     /// Makes room with both passes.
     TryRoom,
-    /// Makes room in the same way, and tells only whether some was made.
-    MakeRoom,
+    /// Makes room with the pass of the seat 1 alone, which holds back what the views of the other name.
+    TryAlone,
 }
 
 /// What is done, and what it answers.
@@ -74,30 +75,21 @@ fn told_space(space: Result<Space, MergeFault>) -> Told {
 
 fn try_room_now<W: Wait>(rt: &W, alloc: Global, hall: &RoomHall<MemDisk>, seats: &mut Seats) -> Told
     requires { AreGoing hall.now seats.old.one.txn seats.old.one.pass seats.old.two.txn seats.old.two.pass }
-    ensures { AreGoing hall.now seats.new.one.txn seats.new.one.pass seats.new.two.txn seats.new.two.pass }
+    ensures going { AreGoing hall.now seats.new.one.txn seats.new.one.pass seats.new.two.txn seats.new.two.pass }
+    ensures marked { KeepsMarks seats.old.two.pass seats.new.two.pass }
 {
     let others = slice::from_mut(&mut seats.two.pass);
     told_space(try_room(rt, alloc, hall, &mut seats.one.pass, others, 0))
 }
 
-fn told_made(made: Result<bool, MergeFault>) -> Told {
-    match made {
-        Ok(made) => Told::RoomMade(made),
-        Err(_fault) => Told::NoRoom,
-    }
-}
-
-fn make_room_now<W: Wait>(
-    rt: &W,
-    alloc: Global,
-    hall: &RoomHall<MemDisk>,
-    seats: &mut Seats,
-) -> Told
-    requires { AreGoing hall.now seats.old.one.txn seats.old.one.pass seats.old.two.txn seats.old.two.pass }
-    ensures { AreGoing hall.now seats.new.one.txn seats.new.one.pass seats.new.two.txn seats.new.two.pass }
+fn try_alone_now<W: Wait>(rt: &W, alloc: Global, hall: &RoomHall<MemDisk>, seat: &mut Seat) -> Told
+    requires going { IsGoing hall.now seat.old.txn seat.old.pass }
+    requires first { seat.old.pass.number ≡ 1 }
+    ensures going { IsGoing hall.now seat.new.txn seat.new.pass × (seat.new.pass.number ≡ seat.old.pass.number) }
 {
-    let others = slice::from_mut(&mut seats.two.pass);
-    told_made(make_room(rt, alloc, hall, &mut seats.one.pass, others, 0))
+    let mut none = Vec::new(alloc);
+    let others = none.as_mut_slice();
+    told_space(try_room(rt, alloc, hall, &mut seat.pass, others, 0))
 }
 
 fn do_act<W: Wait>(
@@ -115,7 +107,7 @@ fn do_act<W: Wait>(
         Act::Two(step) => take(rt, alloc, hall, &mut seats.two, step),
         Act::Merge => merge_now(rt, alloc, hall, &mut seats.one),
         Act::TryRoom => try_room_now(rt, alloc, hall, seats),
-        Act::MakeRoom => make_room_now(rt, alloc, hall, seats),
+        Act::TryAlone => try_alone_now(rt, alloc, hall, &mut seats.one),
     }
 }
 
@@ -167,7 +159,7 @@ fn finish(
 
 /// Two transactions that hold nothing. None where there is no memory.
 fn fresh_two(alloc: Global) -> Option<(Txn, Txn)>
-    ensures { IfSome result (λ txns. IsFree txns.0 × IsFree txns.1) }
+    ensures { IfSome result (λ txns. IsBlankTxn txns.0 × IsBlankTxn txns.1) }
 {
     let one = fresh(alloc, 1)?;
     let two = fresh(alloc, 2)?;
@@ -183,7 +175,7 @@ fn walk_opened<W: Wait>(
     table: &[Line],
 ) -> Option<Outcome>
     requires two { AreTwo opened.hall opened.one opened.two opened.spare.items (vec_capacity opened.spare) }
-    requires free { IsFree txns.0 × IsFree txns.1 }
+    requires free { IsBlankTxn txns.0 × IsBlankTxn txns.1 }
 {
     let Two {
         hall,

@@ -5,7 +5,8 @@ ghost use Rattle.std.specs.List.{AllByRecursion};
 ghost use Rattle.fine_model.specs.Bounds.{FitsCall};
 ghost use Rattle.fine_hall.specs.Passes.{mine};
 ghost use Rattle.hall_accounts.specs.Doing.{EndsTxn};
-ghost use Rattle.hall_accounts.specs.Going.{IsAtRest, IsFree, IsGoing, StaysOwn};
+ghost use Rattle.txn_engine.specs.Txns.{IsBlankTxn};
+ghost use Rattle.hall_accounts.specs.Going.{IsAtRest, IsGoing, StaysOwn};
 
 use crate::accounts::{balance_of, get_of, put_of};
 use epoch_room::RoomFault;
@@ -34,7 +35,7 @@ pub(crate) fn seat_of<V>(pass: &Pass<V>) -> u8 {
 
 /// A transaction that holds nothing. None where there is no memory.
 pub fn fresh(alloc: Global, lane: u8) -> Option<Txn>
-    ensures { IfSome result IsFree }
+    ensures { IfSome result IsBlankTxn }
 {
     match Txn::new(alloc, lane, 1) {
         Ok(txn) => Some(txn),
@@ -91,7 +92,7 @@ pub fn give_up<D: LogDisk>(
     requires going { IsGoing hall.now txn.old pass.old }
     ensures idle { IsAtRest hall.now pass.new }
     ensures stays { StaysOwn pass.old pass.new }
-    ensures free { IsFree txn.new }
+    ensures free { IsBlankTxn txn.new }
 {
     txn.abort(hall, pass, keep);
 }
@@ -151,7 +152,7 @@ pub fn run<D: LogDisk, W: Wait>(
     keep: usize,
 ) -> Ended
     requires idle { IsAtRest hall.now pass.old }
-    requires free { IsFree txn.old }
+    requires free { IsBlankTxn txn.old }
     requires calls { AllByRecursion FitsCall calls.now }
     ensures { EndsTxn hall.now txn.new pass.old pass.new result }
 {
@@ -200,7 +201,7 @@ pub fn transfer<D: LogDisk, W: Wait>(
     to: u8,
 ) -> Ended
     requires idle { IsAtRest hall.now pass.old }
-    requires free { IsFree txn.old }
+    requires free { IsBlankTxn txn.old }
     ensures { EndsTxn hall.now txn.new pass.old pass.new result }
 {
     let answered = move_one(alloc, txn, hall, pass, from, to);

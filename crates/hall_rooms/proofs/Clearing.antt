@@ -1,12 +1,13 @@
--- Rounds of sealing, posting, looking and erasing, until nothing is retired.
-use Rattle.std.proofs.Common.{◌≡◌, ◌≢◌, ◌⊎◌, inl, inr, ⊎_elim, ℕ, zero, suc, ◌+◌, ◌==◌, Bool, true, false, cond, true≢false, List, [], ◌∷◌, ◌++◌, filter, Some, None, Result, Ok, Err, refl, sym, ap, ◌∙◌, subst, arith, append-nil}
-use Rattle.std.specs.Prelude.{if◌then◌else◌, find, is_some, map, nat_le, not, nat_eq, option_to_list}
+-- Rounds of posting, looking and erasing, until nothing is retired.
+use Rattle.std.proofs.Common.{◌≡◌, ◌≢◌, ◌⊎◌, inl, inr, ⊎_elim, ℕ, suc, ◌<◌, Bool, true, false, cond, true≢false, List, [], ◌∷◌, ◌++◌, filter, Some, None, Result, Ok, Err, refl, sym, ap, ◌∙◌, subst, arith, append-nil}
+use Rattle.std.specs.Prelude.{find, is_some, map, nat_le, not, nat_eq, option_to_list}
 use Rattle.std.specs.List.{list_any}
 use Rattle.std.proofs.lemmas.Bool.Decides.{leb_tells}
 use Rattle.fine_model.specs.declared.Part.{Part}
 use Rattle.fine_model.specs.declared.law.RoomState.{RoomState}
 use Rattle.fine_model.specs.Jobs.{KeepsJob, job_regions}
 use Rattle.partition_hold.specs.Views.{state_of}
+use Rattle.epoch_room.specs.Erasing.{unheld}
 use Rattle.epoch_room.specs.Steps.{retired_from}
 use Rattle.epoch_room.specs.Value.{RoomValue, all_regions, regions_outside}
 use Rattle.epoch_room.specs.Whole.{IsWhole}
@@ -16,9 +17,11 @@ use Rattle.fine_hall.specs.declared.law.Beginning.{Beginning}
 use Rattle.fine_hall.specs.Passes.{published}
 use Rattle.fine_hall.specs.Halls.{IsAhead}
 use Rattle.hall_rooms.specs.Rooms.{RoomPass}
-use Rattle.hall_rooms.specs.Steps.{IsCleanTurn, ShowsOr}
-use Rattle.hall_rooms.specs.Turning.{ErasesFirst, LosesFirst, LosesTarget, SealedAndPosted, StillWaits, StopsPosting}
-use Rattle.hall_rooms.specs.Making.{AllAhead, ClearsOr, WholeRounds, ErasesAndLooks, IsCleared, RoundOr, SameOrSealed, SealsAll, Stops, StopsErasing, StopsRound}
+use Rattle.hall_rooms.specs.Posting.{PostsAll, PostsFirst}
+use Rattle.hall_rooms.specs.Steps.{IsCleanTurn, PublishesOr}
+use Rattle.hall_rooms.specs.Turning.{ErasesFirst, ErasesThese, LosesFirst}
+use Rattle.hall_rooms.specs.Merging.{StaysUnshut}
+use Rattle.hall_rooms.specs.Making.{AllAhead, ClearsOr, EndsRound, ErasesAndLooks, IsCleared, LeavesChain, RoundOr, Stops, StopsErasing, StopsRound, WholeRound, WholeRounds}
 use Rattle.hall_rooms.proofs.Erased.{job_kept, may_settle}
 use Rattle.hall_rooms.proofs.Turned.{some_failed}
 
@@ -58,114 +61,96 @@ is_cleared room whole not_shut none_waits none_retired no_job = record {
       ∙ ap (λ ps. regions_outside room.room.regions (all_regions ps)) (append-nil room.room.parts);
 }
 
--- ---- sealing, and sealing again
+-- ---- what some rounds leave
 
-pub seals_then : (a b c : RoomState) → SealsAll a b → SealsAll b c → SealsAll a c
-seals_then a b c s t = record {
-  opened = s.opened;
-  none_waits = t.none_waits;
-  sealed = t.sealed ∙ (ap (λ n. if n == 0 then b.sealed else b.sealed + 1) s.none_waits ∙ s.sealed);
-  not_shut = t.not_shut;
-  parts = λ none. t.parts s.none_waits ∙ s.parts none;
-  epoch = λ some. let e = s.epoch some in (e.0, t.parts s.none_waits ∙ e.1, e.2);
-}
+chain_then : (a b c : RoomState) → LeavesChain a b → LeavesChain b c → LeavesChain a c
+chain_then a b c s t = record { parts = t.parts ∙ s.parts; epochs = (t.epochs.0 ∙ s.epochs.0, t.epochs.1 ∙ s.epochs.1) }
 
--- what was done so far: nothing, or what waited was sealed
+chain_posted : (seats : ℕ) (old new : RoomState) → PostsAll old new seats → LeavesChain old new
+chain_posted seats old new s = record { parts = ap (λ (r : RoomState). r.parts) s.same; epochs = (ap (λ (r : RoomState). r.sealed) s.same, ap (λ (r : RoomState). r.waiting) s.same) }
+
+chain_first : (seats : ℕ) (old new : RoomState) → PostsFirst seats old new → LeavesChain old new
+chain_first seats old new s = record { parts = ap (λ (r : RoomState). r.parts) s.same; epochs = (ap (λ (r : RoomState). r.sealed) s.same, ap (λ (r : RoomState). r.waiting) s.same) }
+
+chain_erased : (leads : List ℕ) (old new : RoomState) → ErasesThese leads old new → LeavesChain old new
+chain_erased leads old new s = record { parts = ap (λ (r : RoomState). r.parts) s.same; epochs = (ap (λ (r : RoomState). r.sealed) s.same, ap (λ (r : RoomState). r.waiting) s.same) }
+
+chain_lost : (old new : RoomState) → LosesFirst old new → LeavesChain old new
+chain_lost old new s = record { parts = ap (λ (r : RoomState). r.parts) s.same; epochs = (ap (λ (r : RoomState). r.sealed) s.same, ap (λ (r : RoomState). r.waiting) s.same) }
+
+chain_round : (seats : ℕ) (old new : RoomValue) → WholeRound seats old new → LeavesChain old.room new.room
+chain_round seats old new r = chain_then old.room r.shown new.room (chain_posted seats old.room r.shown r.posts) (chain_erased (unheld r.shown) r.shown new.room r.erases.erases)
+
+chain_disk : (seats : ℕ) (old new : RoomState) → PostsFirst seats old new ⊎ StopsErasing seats old (λ shown. LosesFirst shown new) → LeavesChain old new
+chain_disk seats old new (inl first) = chain_first seats old new first
+chain_disk seats old new (inr stopped) = chain_then old stopped.0 new (chain_posted seats old stopped.0 stopped.1) (chain_lost stopped.0 new stopped.2)
+
+chain_memory : (seats : ℕ) (old new : RoomState) → PostsFirst seats old new ⊎ StopsErasing seats old (λ shown. ErasesFirst shown new) → LeavesChain old new
+chain_memory seats old new (inl first) = chain_first seats old new first
+chain_memory seats old new (inr stopped) = chain_then old stopped.0 new (chain_posted seats old stopped.0 stopped.1) (chain_erased stopped.2.begun stopped.0 new stopped.2.erases)
+
+-- what was done so far: nothing, or some rounds
+pub record RoundsLeave (old new : RoomState) : Type 0 where
+  pub unshut : StaysUnshut old new
+  pub chain : LeavesChain old new
+
 abbrev pub SoFar : RoomValue → RoomValue → Type 0
-SoFar old new = (new ≡ old) ⊎ SealsAll old.room new.room
+SoFar old new = (new ≡ old) ⊎ RoundsLeave old.room new.room
 
-pub so_far_then : (old mid new : RoomValue) → SoFar old mid → SealsAll mid.room new.room → SealsAll old.room new.room
-so_far_then old mid new so_far s = ⊎_elim (λ is. subst (λ (v : RoomValue). SealsAll v.room new.room) is s) (λ was. seals_then old.room mid.room new.room was s) so_far
+leave_more : (old mid new : RoomValue) → SoFar old mid → RoundsLeave mid.room new.room → RoundsLeave old.room new.room
+leave_more old mid new so_far s = ⊎_elim
+    (λ is. subst (λ (v : RoomValue). RoundsLeave v.room new.room) is s)
+    (λ (was : RoundsLeave old.room mid.room). record { unshut = (was.unshut.0, s.unshut.1); chain = chain_then old.room mid.room new.room was.chain s.chain })
+    so_far
 
 -- the room was open before
 was_open : (old mid : RoomValue) → SoFar old mid → mid.room.is_shut ≡ false → old.room.is_shut ≡ false
-was_open old mid so_far is_open = ⊎_elim (λ is. sym (ap (λ (v : RoomValue). v.room.is_shut) is) ∙ is_open) (λ was. was.opened) so_far
+was_open old mid so_far is_open = ⊎_elim (λ is. sym (ap (λ (v : RoomValue). v.room.is_shut) is) ∙ is_open) (λ (was : RoundsLeave old.room mid.room). was.unshut.0) so_far
 
 -- a room that was shut is as it was
 shut_then : (seats : ℕ) (old mid new : RoomValue) → SoFar old mid → (epoch : ℕ) → StopsRound seats mid new (room_fault.Shut epoch) → Stops seats old new (room_fault.Shut epoch)
 shut_then seats old mid new (inl is) epoch s = subst (λ v. Stops seats v new (room_fault.Shut epoch)) is s
-shut_then seats old mid new (inr was) epoch s = absurd (true≢false (sym s.0 ∙ was.not_shut))
+shut_then seats old mid new (inr was) epoch s = absurd (true≢false (sym s.0 ∙ was.unshut.1))
 
--- ---- what a round that stopped leaves of the chain
-
--- where nothing waited it is as it was
-record LeavesChain (old new : RoomState) : Type 0 where
-  pub idle : old.waiting ≡ 0 → new.parts ≡ old.parts
-  pub is : SameOrSealed old new
-
-same_parts : (old new : RoomState) → new.parts ≡ old.parts → LeavesChain old new
-same_parts old new same = record { idle = λ none. same; is = inl same }
-
-posted_parts : (old shown new : RoomState) (seats : ℕ) → SealedAndPosted old shown seats → new.parts ≡ shown.parts → LeavesChain old new
-posted_parts old shown new seats s same = record { idle = idle; is = by old.waiting refl }
-  where
-    idle : old.waiting ≡ 0 → new.parts ≡ old.parts
-    idle none = same ∙ (s.parts none).0
-
-    by : (n : ℕ) → old.waiting ≡ n → SameOrSealed old new
-    by zero is = inl (idle is)
-    by (suc n) is = let e = s.epoch (λ none. absurd (omega (arith, is, none))) in inr (e.0, same ∙ e.1, e.2)
-
-disk_chain : (seats : ℕ) (old new : RoomState) → LosesTarget old new ⊎ (StopsPosting old new seats ⊎ StopsErasing seats old (λ shown. LosesFirst shown new)) → LeavesChain old new
-disk_chain seats old new (inl lost) = same_parts old new (ap (λ (r : RoomState). r.parts) lost.same)
-disk_chain seats old new (inr (inl stopped)) = posted_parts old new new stopped.0 stopped.2 refl
-disk_chain seats old new (inr (inr stopped)) = posted_parts old stopped.0 new seats stopped.1 (ap (λ (r : RoomState). r.parts) stopped.2.same)
-
-memory_chain : (seats : ℕ) (old new : RoomState) → StillWaits old new ⊎ (StopsPosting old new seats ⊎ StopsErasing seats old (λ shown. ErasesFirst shown new)) → LeavesChain old new
-memory_chain seats old new (inl still) = same_parts old new (ap (λ (r : RoomState). r.parts) still.same)
-memory_chain seats old new (inr (inl stopped)) = posted_parts old new new stopped.0 stopped.2 refl
-memory_chain seats old new (inr (inr stopped)) = posted_parts old stopped.0 new seats stopped.1 (ap (λ (r : RoomState). r.parts) stopped.2.erases.same)
-
-chain_then : (old mid new : RoomValue) → SoFar old mid → LeavesChain mid.room new.room → SameOrSealed old.room new.room
-chain_then old mid new (inl is) c = subst (λ (v : RoomValue). SameOrSealed v.room new.room) is c.is
-chain_then old mid new (inr was) c = by old.room.waiting refl
-  where
-    same : new.room.parts ≡ mid.room.parts
-    same = c.idle was.none_waits
-
-    by : (n : ℕ) → old.room.waiting ≡ n → SameOrSealed old.room new.room
-    by zero is = inl (same ∙ was.parts is)
-    by (suc n) is = let e = was.epoch (λ none. absurd (omega (arith, is, none))) in inr (e.0, same ∙ e.1, e.2)
+stop_chain : (old mid new : RoomValue) → SoFar old mid → LeavesChain mid.room new.room → LeavesChain old.room new.room
+stop_chain old mid new (inl is) c = subst (λ (v : RoomValue). LeavesChain v.room new.room) is c
+stop_chain old mid new (inr was) c = chain_then old.room mid.room new.room was.chain c
 
 -- behind some rounds one stopped
-module _ (seats : ℕ) (old mid new : RoomValue) (so_far : SoFar old mid) (rounds : ℕ) (ended : WholeRounds seats rounds old mid) where
+module _ (seats : ℕ) (old mid new : RoomValue) (so_far : SoFar old mid) (rounds : ℕ) (few : rounds < 3) (ended : WholeRounds seats rounds old mid) where
   pub stops_then : (fault : RoomFault) → StopsRound seats mid new fault → Stops seats old new fault
-  stops_then room_fault.Disk s = (was_open old mid so_far s.0, s.1, record { rounds = rounds; before = mid; ended = ended; stops = s; chain = chain_then old mid new so_far (disk_chain seats mid.room new.room s.2) })
+  stops_then room_fault.Disk s =
+      (was_open old mid so_far s.0, s.1, record { rounds = rounds; few = few; before = mid; ended = ended; stops = s; chain = stop_chain old mid new so_far (chain_disk seats mid.room new.room s.2) })
   stops_then (room_fault.Shut epoch) s = shut_then seats old mid new so_far epoch s
-  stops_then room_fault.NoMemory s = (s.0, record { rounds = rounds; before = mid; ended = ended; stops = s; chain = chain_then old mid new so_far (memory_chain seats mid.room new.room s.1) })
+  stops_then room_fault.NoMemory s = (s.0, record { rounds = rounds; few = few; before = mid; ended = ended; stops = s; chain = stop_chain old mid new so_far (chain_memory seats mid.room new.room s.1) })
 
 -- ---- one round
 
 module _ (x : Beginning) (old mid new : RoomValue) (others : List RoomPass) where
-  -- showing came to no end
-  pub show_fails : (p' : RoomPass) (fault : RoomFault) → ShowsOr x old new p' (Err fault) → RoundOr x old new p' others (Err fault)
-  show_fails p' room_fault.Disk s = (s.0, (s.1, s.2, ⊎_elim (λ lost. inl lost) (λ stopped. inr (inl stopped)) s.3))
-  show_fails p' (room_fault.Shut epoch) s = (s.0, (s.1, s.2, s.3))
-  show_fails p' room_fault.NoMemory s = (s.0, (s.1, ⊎_elim (λ still. inl still) (λ stopped. inr (inl stopped)) s.2))
+  -- posting came to no end
+  pub post_stops : (p' : RoomPass) (fault : RoomFault) → PublishesOr x old new p' (Err fault) → RoundOr x old new p' others (Err fault)
+  post_stops p' room_fault.Disk s = (s.0, (s.1, s.2, inl s.3))
+  post_stops p' (room_fault.Shut epoch) s = (s.0, (s.1, s.2, s.3))
+  post_stops p' room_fault.NoMemory s = (s.0, (s.2, inl s.3))
 
-  module _ (p' : RoomPass) (not_shut : mid.room.is_shut ≡ false) (posted : SealedAndPosted old.room mid.room x.seats) (c : IsCleanTurn x mid p') (shown : published p' ≡ mid.room.sealed) where
+  module _ (p' : RoomPass) (opened : old.room.is_shut ≡ false) (posted : PostsAll old.room mid.room x.seats) (c : IsCleanTurn x mid p') (shown : published p' ≡ mid.room.sealed) where
+    not_shut : mid.room.is_shut ≡ false
+    not_shut = ap (λ (r : RoomState). r.is_shut) posted.same ∙ opened
+
     -- and erasing
     pub round_goes : IsAhead state_of x p' → AllAhead x others → (r : Result Bool RoomFault) → ErasesAndLooks mid new r → RoundOr x old new p' others r
-    round_goes ahead all (Ok done) (erased, e, looks) = (
-      record { note = c.note; turn = may_settle x mid new p' c (Ok erased) e; none_failed = let n = c.none_failed in let f = e.5 in omega (arith, n, f) },
-      record {
-        opened = posted.opened;
-        none_waits = e.1.1 ∙ posted.none_waits;
-        sealed = e.1.0 ∙ posted.sealed;
-        not_shut = e.3;
-        parts = λ idle. ap (λ (r : RoomState). r.parts) e.4.same ∙ (posted.parts idle).0;
-        epoch = λ some. let p = posted.epoch some in (p.0, ap (λ (r : RoomState). r.parts) e.4.same ∙ p.1, p.2);
-      },
-      ahead,
-      all,
-      record { shown = mid.room; posts = posted; erased = erased; erases = e.4 },
-      shown ∙ sym e.1.0,
-      looks,
-    )
-    round_goes ahead all (Err room_fault.Disk) e = (record { note = c.note; turn = may_settle x mid new p' c (Err room_fault.Disk) e; some_failed = some_failed x p' mid new c.note c.turn e.4 }, (posted.opened, e.3, inr (inr (mid.room, posted, e.5))))
+    round_goes ahead all (Ok done) (erased, e, looks) = record {
+      turn = record { note = c.note; turn = may_settle x mid new p' c (Ok erased) e; none_failed = let n = c.none_failed in let f = e.5 in omega (arith, n, f) };
+      unshut = (opened, e.3);
+      ahead = (ahead, all);
+      round = record { shown = mid.room; posts = posted; erased = erased; erases = e.4 };
+      publishes = shown ∙ sym e.1.0;
+      looks = looks;
+    }
+    round_goes ahead all (Err room_fault.Disk) e = (record { note = c.note; turn = may_settle x mid new p' c (Err room_fault.Disk) e; some_failed = some_failed x p' mid new c.note c.turn e.4 }, (opened, e.3, inr (mid.room, posted, e.5)))
     round_goes ahead all (Err (room_fault.Shut epoch)) e = absurd (true≢false (sym e.0 ∙ not_shut))
     round_goes ahead all (Err room_fault.NoMemory) e =
-        (record { note = c.note; turn = may_settle x mid new p' c (Err room_fault.NoMemory) e; none_failed = let n = c.none_failed in let f = e.3 in omega (arith, n, f) }, (e.2, inr (inr (mid.room, posted, e.4))))
+        (record { note = c.note; turn = may_settle x mid new p' c (Err room_fault.NoMemory) e; none_failed = let n = c.none_failed in let f = e.3 in omega (arith, n, f) }, (e.2, inr (mid.room, posted, e.4)))
 
 -- erasing keeps the merge that is out
 pub looks_job : (old new : RoomValue) (r : Result Bool RoomFault) → ErasesAndLooks old new r → KeepsJob old.room new.room
@@ -178,16 +163,46 @@ job_stays a b keeps none = keeps.job ∙ none
 -- ---- until nothing is retired
 
 module _ (x : Beginning) (old mid new : RoomValue) (so_far : SoFar old mid) (p' : RoomPass) (others : List RoomPass) where
-  pub cleared : (rounds : ℕ) → WholeRounds x.seats rounds old mid → RoundOr x mid new p' others (Ok true) → IsWhole new → new.room.job ≡ None → ClearsOr x old new p' others (Ok tt)
-  cleared rounds ended r whole none =
-      let seals = so_far_then old mid new so_far r.1 in
-      (r.0, record { rounds = rounds; before = mid; ended = ended; last = r.4; seals = seals; cleared = is_cleared new whole seals.not_shut seals.none_waits (r.6.0 refl) none }, r.2, r.3, r.5)
+  leave : (done : Bool) → EndsRound x mid new p' others done → RoundsLeave old.room new.room
+  leave done r = leave_more old mid new so_far (record { unshut = r.unshut; chain = chain_round x.seats mid new r.round })
 
-  pub round_fails : (rounds : ℕ) → WholeRounds x.seats rounds old mid → (fault : RoomFault) → RoundOr x mid new p' others (Err fault) → ClearsOr x old new p' others (Err fault)
-  round_fails rounds ended fault r = (r.0, stops_then x.seats old mid new so_far rounds ended fault r.1)
+  pub cleared : (rounds : ℕ) → rounds < 3 → WholeRounds x.seats rounds old mid → EndsRound x mid new p' others true → old.room.waiting ≡ 0 → IsWhole new → new.room.job ≡ None → ClearsOr x old new p' others (Ok true)
+  cleared rounds few ended r none_waits whole none =
+      let l = leave true r in record {
+        turn = r.turn;
+        ahead = r.ahead;
+        publishes = r.publishes;
+        clears = record {
+          rounds = rounds;
+          few = few;
+          before = mid;
+          ended = ended;
+          last = r.round;
+          unshut = l.unshut;
+          chain = l.chain;
+          cleared = is_cleared new whole l.unshut.1 (l.chain.epochs.1 ∙ none_waits) (r.looks.0 refl) none;
+        };
+      }
 
-  pub round_more : RoundOr x mid new p' others (Ok false) → SoFar old new
-  round_more r = inr (so_far_then old mid new so_far r.1)
+  pub round_fails : (rounds : ℕ) → rounds < 3 → WholeRounds x.seats rounds old mid → (fault : RoomFault) → RoundOr x mid new p' others (Err fault) → ClearsOr x old new p' others (Err fault)
+  round_fails rounds few ended fault r = (r.0, stops_then x.seats old mid new so_far rounds few ended fault r.1)
 
-  pub rounds_more : (rounds : ℕ) → WholeRounds x.seats rounds old mid → RoundOr x mid new p' others (Ok false) → WholeRounds x.seats (suc rounds) old new
-  rounds_more rounds ended r = (mid, ended, r.4, r.6.1 refl)
+  pub round_more : EndsRound x mid new p' others false → SoFar old new
+  round_more r = inr (leave false r)
+
+  pub rounds_more : (rounds more : ℕ) → more ≡ suc rounds → WholeRounds x.seats rounds old mid → EndsRound x mid new p' others false → WholeRounds x.seats more old new
+  rounds_more rounds more is ended r = subst (λ n. WholeRounds x.seats n old new) (sym is) (mid, ended, r.round, r.looks.1 refl)
+
+-- the last round left something retired
+module _ (x : Beginning) (old new : RoomValue) (p' : RoomPass) (others : List RoomPass) where
+  -- what the last round left of the passes
+  pub record AtRound : Type 0 where
+    pub ahead : IsAhead state_of x p' × AllAhead x others
+    pub publishes : published p' ≡ new.room.sealed
+    pub leaves : RoundsLeave old.room new.room
+
+  pub still_held : IsCleanTurn x new p' → WholeRounds x.seats 3 old new → AtRound → ClearsOr x old new p' others (Ok false)
+  still_held turn ended a = record { turn = turn; ahead = a.ahead; publishes = a.publishes; clears = record { ended = ended; unshut = a.leaves.unshut; chain = a.leaves.chain } }
+
+pub at_round : (x : Beginning) (old mid new : RoomValue) (p' : RoomPass) (others : List RoomPass) → SoFar old mid → EndsRound x mid new p' others false → AtRound x old new p' others
+at_round x old mid new p' others so_far r = record { ahead = r.ahead; publishes = r.publishes; leaves = leave_more old mid new so_far (record { unshut = r.unshut; chain = chain_round x.seats mid new r.round }) }

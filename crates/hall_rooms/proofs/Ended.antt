@@ -65,6 +65,7 @@ closed x passes views room new e names back whole = record {
   board = names;
   no_eyes = none_open new whole names;
   no_job = ap (λ (r : RoomState). r.job) back.room ∙ e.no_job;
+  whole = whole;
   high = let h = e.high in let b = back.high in omega (arith, h, b);
   low = ⊎_elim (λ b. ⊎_elim (λ l. inl (omega (arith, b, l))) (λ l. inr (let up = back.keeps.becomes.faults in omega (arith, l, up))) e.low) (λ b. inr b) back.low;
 }

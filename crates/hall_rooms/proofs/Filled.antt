@@ -1,5 +1,5 @@
 -- A log that can take nothing any more, as it is told when no room could be made.
-use Rattle.std.proofs.Common.{◌≡◌, ⊎_elim, ℕ, ◌<◌, Bool, true, false, List, length, Option, Some, None, Result, Ok, Err, refl, sym, ap, ◌∙◌, subst}
+use Rattle.std.proofs.Common.{◌≡◌, ℕ, ◌<◌, List, length, Option, Some, None, refl, sym, ap, ◌∙◌, subst}
 use Rattle.std.specs.Prelude.{option_map}
 use Rattle.fine_model.specs.declared.Row.{Row}
 use Rattle.fine_model.specs.declared.law.RoomState.{RoomState}
@@ -12,13 +12,10 @@ use Rattle.epoch_room.specs.Meaning.{Stands, StandsTold, StandsWhere, origin_of}
 use Rattle.epoch_room.specs.Value.{RoomValue}
 use Rattle.epoch_room.proofs.Stuck.{stuck_law}
 use Rattle.room_merges.specs.Near.{NoneFitNow}
-use Rattle.room_merges.specs.declared.fault.MergeFault.{MergeFault}
 use Rattle.fine_hall.specs.declared.law.Beginning.{Beginning}
 use Rattle.fine_hall.specs.Passes.{seen}
-use Rattle.hall_rooms.specs.declared.making.Space.{Space}
-use Rattle.hall_rooms.specs.declared.making.Space.TheVariants as space
 use Rattle.hall_rooms.specs.Rooms.{room_log}
-use Rattle.hall_rooms.specs.Making.{IsCleared, MakesOr, StuckThen, TellsSpace}
+use Rattle.hall_rooms.specs.Making.{IsCleared, StuckThen}
 use Rattle.hall_rooms.proofs.Left.{last_is}
 
 -- ---- what the log told at entry
@@ -63,20 +60,7 @@ module _ (x : Beginning) (room : RoomValue) (log : room_log room ≡ x.log) (cle
 
 -- ---- as it is told
 
-same_space : (s t : Space) → ◌≡◌ {A = Result Space MergeFault} (Ok s) (Ok t) → s ≡ t
-same_space s t e = cc
-
-stuck_told : (room : RoomState) (made : Result Bool MergeFault) → TellsSpace room made (Ok space.Stuck) → (made ≡ Ok false) × (length room.free < 2)
-stuck_told room (Ok true) t = absurd (let x : space.Stuck ≡ space.Made = same_space space.Stuck space.Made t in cc)
-stuck_told room (Ok false) t = ⊎_elim
-    (λ (h : ◌≡◌ {A = Result Space MergeFault} (Ok space.Stuck) (Ok space.Stuck) × (length room.free < 2)). (refl, h.1))
-    (λ h. absurd (let x : space.Stuck ≡ space.Enough = same_space space.Stuck space.Enough h.0 in cc))
-    t
-stuck_told room (Err fault) t = absurd (let x : ◌≡◌ {A = Result Space MergeFault} (Ok space.Stuck) (Err fault) = t in cc)
-
 pub stuck_then : StuckThen
 stuck_then x from p p' t e first began =
-    let m = t.makes in
-    let told = stuck_told m.room.room t.made t.tells in
-    let vain = subst (MakesOr x.seats from m.found m.room) told.0 m.makes in
-    subst IsStuck (sym (last_is x m.found.room None 0 m.room.room p p' m.turn.one)) (is_stuck x m.room m.log vain.1.is.cleared vain.1.is.tries.merges.2 told.1 e first began (seen p') (m.stands e first began))
+    let o = t.makes.1 in
+    subst IsStuck (sym (last_is x t.found.room None 0 t.room.room p p' t.turn.one)) (is_stuck x t.room t.log o.is.cleared o.is.tries.merges.2 t.makes.2 e first began (seen p') (t.stands e first began))

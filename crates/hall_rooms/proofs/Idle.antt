@@ -9,8 +9,9 @@ use Rattle.fine_hall.proofs.Troubles.{sees_law}
 use Rattle.partition_hold.specs.Views.{state_of}
 use Rattle.hall_rooms.specs.Rooms.{RoomPass}
 use Rattle.hall_rooms.specs.Turning.{SealsIdle, SettlesIdle, TakesTurn}
+use Rattle.hall_rooms.specs.Posting.{ShowsIdle}
 use Rattle.hall_rooms.specs.Merging.{MergesIdle}
-use Rattle.hall_rooms.specs.Making.{MakesIdle, RenewsIdle}
+use Rattle.hall_rooms.specs.Making.{RenewsIdle, TriesIdle}
 use Rattle.hall_rooms.proofs.Left.{job_left, last_is}
 
 idle : (x : Beginning) (found room : RoomState) (p p' : RoomPass) → p'.number ≡ p.number → TakesTurn x found None 0 room p p' → KeepsJob found room → (known p').held ≡ (known p).held → HoldsNothing p → LacksJob x p → HoldsNothing p' × LacksJob x p'
@@ -22,14 +23,17 @@ idle x found room p p' number t job held nothing lacks = (
 pub seals_idle : SealsIdle
 seals_idle r x p p' number s nothing lacks = idle x s.found s.room p p' number s.turn s.job s.same_held nothing lacks
 
+pub shows_idle : ShowsIdle
+shows_idle r x p p' number s nothing lacks = idle x s.found s.room p p' number s.turn s.job s.same_held nothing lacks
+
 pub settles_idle : SettlesIdle
 settles_idle r x p p' number s nothing lacks = idle x s.found s.room p p' number s.turn s.job s.same_held nothing lacks
 
 pub merges_idle : MergesIdle
 merges_idle from r x p p' number s nothing lacks = idle x s.found.room s.room.room p p' number s.turn s.job s.same_held nothing lacks
 
-pub makes_idle : MakesIdle
-makes_idle x from r p p' number s nothing lacks = (
+pub tries_idle : TriesIdle
+tries_idle x from r p p' number s nothing lacks = (
   λ k low. ap (λ l. get_elem? l k) s.turn.same_held ∙ nothing k low,
   λ one. ap (λ (r : RoomState). r.job) (last_is x s.found.room None 0 s.room.room p p' s.turn.one) ∙ s.no_job.1,
 )

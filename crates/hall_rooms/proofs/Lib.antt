@@ -14,5 +14,4 @@ pub mod Merged
 pub mod Renewing
 pub mod Clearing
 pub mod Made
-pub mod Telling
 pub mod Filled

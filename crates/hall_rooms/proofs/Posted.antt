@@ -30,7 +30,8 @@ use Rattle.fine_hall.proofs.Since.{since_law}
 use Rattle.hall_rooms.specs.Rooms.{RoomPass}
 use Rattle.hall_rooms.specs.Boards.{TakesBackAll, with_views}
 use Rattle.hall_rooms.specs.Views.{MakesView, MakesViewOr, with_faults}
-use Rattle.hall_rooms.specs.Steps.{InTurn, IsCleanTurn, IsFailedTurn, LacksView, NoneFailed, PostedBelow, PostsEachOr, PostsFirst, PostsOr, PostsTo, Stays, with_posted}
+use Rattle.hall_rooms.specs.Steps.{InTurn, IsCleanTurn, IsFailedTurn, LacksView, NoneFailed, PostedBelow, PostsEachOr, PostsOr, PostsTo, Stays}
+use Rattle.hall_rooms.specs.Posting.{PostsFirst, with_posted}
 use Rattle.hall_rooms.specs.Turning.{RenewsSeat, RenewsSeats}
 use Rattle.hall_rooms.proofs.Naming.{place_alike}
 use Rattle.hall_rooms.proofs.Turned.{goes, rises, some_failed}

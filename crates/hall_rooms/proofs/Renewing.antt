@@ -1,5 +1,5 @@
 -- Passes that look at their mailboxes, one of them within its turn.
-use Rattle.std.proofs.Common.{◌≡◌, ◌≢◌, ⊎_elim, ℕ, suc, ◌+◌, ◌<◌, Bool, true, false, List, [], ◌∷◌, length, set, get_or, refl, sym, ap, ◌∙◌, subst, arith}
+use Rattle.std.proofs.Common.{◌≡◌, ◌≢◌, ⊎_elim, ℕ, suc, ◌+◌, ◌<◌, Bool, true, false, List, [], ◌∷◌, ◌++◌, length, set, get_or, refl, sym, ap, ◌∙◌, subst, arith, append_assoc}
 use Rattle.std.specs.Prelude.{MatchBool, map}
 use Rattle.std.proofs.lemmas.List.{length-set}
 use mathlib.Core.Option.{some, some-injective}
@@ -14,10 +14,12 @@ use Rattle.epoch_room.proofs.OpenEpochs.Behind.{keeps_none}
 use Rattle.fine_places.specs.History as places
 use Rattle.fine_places.proofs.Elements.{elem_at, read_at}
 use Rattle.fine_places.proofs.Lists.{decide, some_same}
+use Rattle.fine_boxes.specs.declared.model.Mark.{Mark}
 use Rattle.fine_boxes.specs.declared.model.TurnNote.{TurnNote}
 use Rattle.fine_hall.specs.declared.law.Beginning.{Beginning}
+use Rattle.fine_hall.specs.declared.turn.Turn.{Turn}
 use Rattle.fine_hall.specs.Turns.{failed_of, room_after}
-use Rattle.fine_hall.specs.Passes.{reads, view_of, HasPlace, IsHolder, IsPass}
+use Rattle.fine_hall.specs.Passes.{front_of, marks, reads, turns, view_of, HasPlace, IsHolder, IsPass}
 use Rattle.fine_hall.specs.Halls.{FindsStale, HallOf, IsAhead, Refreshes}
 use Rattle.node_cache.specs.Cache.{Cache}
 use Rattle.fine_hall.proofs.Seeing.{sees_itself, sees_on}
@@ -34,21 +36,27 @@ LooksOnce x fresh p p' = MatchBool fresh (Refreshes state_of x p p') (FindsStale
 -- ---- one pass
 
 module _ (x : Beginning) where
+  -- the fronts that it had since stand before the others among its marks
+  marks_on : (fresh : Bool) (p p' : RoomPass) → LooksOnce x fresh p p' → (newer : List (Mark Turn)) × (marks p' ≡ newer ++ marks p)
+  marks_on true p p' r = (record { upto = (front_of state_of p').upto; seen = turns p' } ∷ [], r.marked)
+  marks_on false p p' r = ([], r.same_marks.0)
+
   pub looked : (fresh : Bool) (p p' : RoomPass) → p'.number ≡ p.number → LooksOnce x fresh p p' → Renews x p p'
   looked fresh p p' number r =
       let l = (sees_law state_of).look fresh x p p' r in
-      record { number = number; sees = l.0; same_held = l.1; meets = ((troubles_law state_of x).same p p' number).looks fresh r }
+      record { number = number; marked = marks_on fresh p p' r; sees = l.0; same_held = l.1; meets = ((troubles_law state_of x).same p p' number).looks fresh r }
 
   pub same_turn : (fresh : Bool) (p p' : RoomPass) → LooksOnce x fresh p p' → (reads p').turn ≡ (reads p).turn
   same_turn true p p' r = r.turn.0
   same_turn false p p' r = r.turn.0
 
   pub renews_none : (p : RoomPass) → Renews x p p
-  renews_none p = record { number = refl; sees = sees_itself p; same_held = refl; meets = refl }
+  renews_none p = record { number = refl; marked = ([], refl); sees = sees_itself p; same_held = refl; meets = refl }
 
   pub renews_then : (p q r : RoomPass) → Renews x p q → Renews x q r → Renews x p r
   renews_then p q r s t = record {
     number = t.number ∙ s.number;
+    marked = (t.marked.0 ++ s.marked.0, t.marked.1 ∙ (ap (λ l. t.marked.0 ++ l) s.marked.1 ∙ sym (append_assoc t.marked.0 s.marked.0 (marks p))));
     sees = sees_on p q r s.number (λ k low has. ap (λ l. get_elem? l k) s.same_held ∙ has) s.sees t.sees;
     same_held = t.same_held ∙ s.same_held;
     meets = t.meets ∙ s.meets;

@@ -1,4 +1,4 @@
--- What waits is sealed, posted to all seats and published, in a turn, and the turn ends.
+-- Views are posted to all seats in a turn, what waits being sealed before or not, and the turn ends.
 use Rattle.std.proofs.Common.{◌≡◌, inl, inr, ℕ, suc, zero, ◌≤◌, false, true≢false, None, Ok, Err, refl, sym, ap, ◌∙◌, subst, arith}
 use Rattle.std.specs.Prelude.{Result}
 use lib.ListN.{get_elem?}
@@ -22,7 +22,8 @@ use Rattle.hall_rooms.specs.Rooms.{RoomPass}
 use Rattle.hall_rooms.specs.Turning.{RenewsSeats, SealedAndPosted, SealsTurn, StopsPosting}
 use Rattle.hall_rooms.specs.Views.{with_faults}
 use Rattle.hall_rooms.specs.Making.{TurnsOn}
-use Rattle.hall_rooms.specs.Steps.{BeginsTurn, InTurn, IsCleanTurn, PostsEachOr, PostsFirst, SealsWaitingOr, ShowsOr, Stays}
+use Rattle.hall_rooms.specs.Posting.{PostsFirst, PostsTurn}
+use Rattle.hall_rooms.specs.Steps.{BeginsTurn, InTurn, IsCleanTurn, PostsEachOr, PublishesOr, SealsWaitingOr, ShowsOr, Stays}
 use Rattle.hall_rooms.proofs.GivenBack.{met_none, met_some}
 use Rattle.hall_rooms.proofs.Posted.{faults_same}
 use Rattle.hall_rooms.proofs.Renewing.{stays_on}
@@ -71,17 +72,26 @@ sealed_posted n old mid new s is_open same board = record {
 stops_posting : (old mid : RoomValue) (new : RoomState) (seats : ℕ) → SealsWaitingOr old mid (Ok tt) → mid.room.is_shut ≡ false → PostsFirst seats mid.room new → StopsPosting old.room new seats
 stops_posting old mid new seats s is_open f = (f.upto, f.not_all, sealed_posted f.upto old mid new s is_open f.same f.board)
 
-pub post_fails : (x : Beginning) (old mid new : RoomValue) (p' : RoomPass) (fault : RoomFault) → SealsWaitingOr old mid (Ok tt) → PostsEachOr x mid new p' (Err fault) → ShowsOr x old new p' (Err fault)
-post_fails x old mid new p' room_fault.Disk s e = (e.0, sym s.1.is_shut ∙ e.1, e.2, inr (stops_posting old mid new.room x.seats s e.1 e.3))
-post_fails x old mid new p' (room_fault.Shut epoch) s e = by old.room.waiting refl
-  where
-    same : mid ≡ old → ShowsOr x old new p' (Err (room_fault.Shut epoch))
-    same is = (e.0, sym s.1.is_shut ∙ e.1, e.2 ∙ ap (λ (r : RoomValue). r.room.sealed) is, e.3 ∙ is)
+-- a view could not be made for each seat
+pub post_fails : (x : Beginning) (old new : RoomValue) (p' : RoomPass) (fault : RoomFault) → PostsEachOr x old new p' (Err fault) → PublishesOr x old new p' (Err fault)
+post_fails x old new p' room_fault.Disk e = e
+post_fails x old new p' (room_fault.Shut epoch) e = e
+post_fails x old new p' room_fault.NoMemory e = e
 
-    by : (n : ℕ) → old.room.waiting ≡ n → ShowsOr x old new p' (Err (room_fault.Shut epoch))
-    by zero is = same (s.2 is)
-    by (suc n) is = absurd (true≢false (sym (sym s.1.is_shut ∙ e.1) ∙ s.3 (λ none. absurd (omega (arith, is, none)))))
-post_fails x old mid new p' room_fault.NoMemory s e = (e.0, e.2, inr (stops_posting old mid new.room x.seats s e.1 e.3))
+-- what waited was sealed, and views were posted, or that came to no end
+module _ (x : Beginning) (old mid new : RoomValue) (p' : RoomPass) (s : SealsWaitingOr old mid (Ok tt)) where
+  pub shown : (r : Result ℕ RoomFault) → PublishesOr x mid new p' r → ShowsOr x old new p' r
+  shown (Ok epoch) e = (e.0, e.2, e.3, ap (λ (r : RoomState). r.is_shut) e.4.same ∙ e.1, sealed_posted x.seats old mid new.room s e.1 (faults_same mid.room new.room e.4.same) e.4.board)
+  shown (Err room_fault.Disk) e = (e.0, sym s.1.is_shut ∙ e.1, e.2, inr (stops_posting old mid new.room x.seats s e.1 e.3))
+  shown (Err (room_fault.Shut epoch)) e = by old.room.waiting refl
+    where
+      same : mid ≡ old → ShowsOr x old new p' (Err (room_fault.Shut epoch))
+      same is = (e.0, sym s.1.is_shut ∙ e.1, e.2 ∙ ap (λ (r : RoomValue). r.room.sealed) is, e.3 ∙ is)
+
+      by : (n : ℕ) → old.room.waiting ≡ n → ShowsOr x old new p' (Err (room_fault.Shut epoch))
+      by zero is = same (s.2 is)
+      by (suc n) is = absurd (true≢false (sym (sym s.1.is_shut ∙ e.1) ∙ s.3 (λ none. absurd (omega (arith, is, none)))))
+  shown (Err room_fault.NoMemory) e = (e.0, e.2, inr (stops_posting old mid new.room x.seats s e.1 e.3))
 
 -- ---- publishing
 
@@ -92,18 +102,18 @@ module _ (x : Beginning) (new : RoomValue) (p' p'' : RoomPass) (z : TableId) (ok
       let same : had.0 ≡ t = some_same had.0 t (sym had.1.turn ∙ (ap (λ y. y.turn) s.views.reads ∙ i.is_turn.turn)) in
       goes x p' p'' new new t t i s.same_held s.same_turns number (subst (IsHolder x p'') same had.1) (keeps_none new whole) (job_itself new.room) refl refl i.may.epochs i.may.top i.may.board i.may.counted
 
-  pub shown : (old mid : RoomValue) → SealsWaitingOr old mid (Ok tt) → PostsEachOr x mid new p' (Ok tt) → epoch ≡ new.room.sealed → ShowsOr x old new p'' (Ok epoch)
-  shown old mid sealed posts is =
+  pub published_all : (old : RoomValue) → PostsEachOr x old new p' (Ok tt) → epoch ≡ new.room.sealed → PublishesOr x old new p'' (Ok epoch)
+  published_all old posts is =
       let b = posts.0 in (
         record {
           note = b.note;
           turn = published_turn b.note b.turn;
           none_failed = let n = b.none_failed in let l = ap (λ ts. (room_after x.room ts).faults) s.same_turns in omega (arith, n, l);
         },
+        sym (ap (λ (r : RoomState). r.is_shut) b.same) ∙ posts.1,
         is,
         s.now,
-        posts.1,
-        sealed_posted x.seats old mid new.room sealed (sym (ap (λ (r : RoomState). r.is_shut) b.same) ∙ posts.1) (faults_same mid.room new.room b.same) b.board,
+        record { same = b.same; board = b.board },
       )
 
 pub stays_published : (epoch : ℕ) (p p' : RoomPass) → published p ≤ epoch → Publishes epoch p p' → Stays p p'
@@ -125,6 +135,13 @@ in_turn x old new p' (Err room_fault.Disk) s = (s.0.note, s.0.turn)
 in_turn x old new p' (Err (room_fault.Shut epoch)) s = (s.0.note, s.0.turn)
 in_turn x old new p' (Err room_fault.NoMemory) s = (s.0.note, s.0.turn)
 
+-- and whatever posting does
+pub in_posting : (x : Beginning) (old new : RoomValue) (p' : RoomPass) (r : Result ℕ RoomFault) → PublishesOr x old new p' r → (t : TurnNote) × InTurn x new p' t
+in_posting x old new p' (Ok epoch) s = (s.0.note, s.0.turn)
+in_posting x old new p' (Err room_fault.Disk) s = (s.0.note, s.0.turn)
+in_posting x old new p' (Err (room_fault.Shut epoch)) s = (s.0.note, s.0.turn)
+in_posting x old new p' (Err room_fault.NoMemory) s = (s.0.note, s.0.turn)
+
 -- what a turn of showing did, once the room was given back
 module _ (x : Beginning) (found new : RoomValue) (p p₁ q r : RoomPass) (begun : BeginsTurn x p p₁ found) (second : q.number ≡ p₁.number) (third : r.number ≡ q.number) (stays : Stays p₁ q) where
   abbrev on : TurnsOn x p₁ q
@@ -136,3 +153,11 @@ module _ (x : Beginning) (found new : RoomValue) (p p₁ q r : RoomPass) (begun 
   seals_turn (Err room_fault.Disk) s gave = (s.1, s.2, s.3, met_some x found new p p₁ q r begun second third on s.0.note gave s.0.some_failed)
   seals_turn (Err (room_fault.Shut epoch)) s gave = (s.1, s.2, ap (λ (v : RoomValue). v.room) s.3, met_none x found new p p₁ q r begun second third on s.0.note gave s.0.none_failed)
   seals_turn (Err room_fault.NoMemory) s gave = (s.1, s.2, met_none x found new p p₁ q r begun second third on s.0.note gave s.0.none_failed)
+
+  -- and what one did that seals nothing
+  pub posts_turn : (answer : Result ℕ RoomFault) (s : PublishesOr x found new q answer) → GivesRoom new.room None 0 (in_posting x found new q answer s).0 q r → PostsTurn x found.room new.room p r answer
+  unfolding in_posting
+  posts_turn (Ok epoch) s gave = (s.1, s.2, gave.same_published ∙ s.3, s.4, met_none x found new p p₁ q r begun second third on s.0.note gave s.0.none_failed)
+  posts_turn (Err room_fault.Disk) s gave = (s.1, s.2, s.3, met_some x found new p p₁ q r begun second third on s.0.note gave s.0.some_failed)
+  posts_turn (Err (room_fault.Shut epoch)) s gave = (s.1, s.2, ap (λ (v : RoomValue). v.room) s.3, met_none x found new p p₁ q r begun second third on s.0.note gave s.0.none_failed)
+  posts_turn (Err room_fault.NoMemory) s gave = (s.1, s.2, s.3, met_none x found new p p₁ q r begun second third on s.0.note gave s.0.none_failed)

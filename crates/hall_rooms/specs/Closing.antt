@@ -12,6 +12,7 @@ use Rattle.fine_model.specs.History.{upto}
 use Rattle.partition_hold.specs.Views.{state_of}
 use Rattle.epoch_room.specs.Meaning.{Stands, origin_of}
 use Rattle.epoch_room.specs.Value.{RoomValue}
+use Rattle.epoch_room.specs.Whole.{IsWhole}
 use Rattle.fine_places.specs.History.{by_seat}
 use Rattle.fine_places.specs.declared.model.Placed.{Placed}
 use Rattle.fine_boxes.specs.declared.model.Mark.{Mark}
@@ -44,5 +45,6 @@ pub record ClosesHall (x : Beginning) (passes : List RoomPass) (room : RoomValue
   pub board : list_all is_empty room.room.board ≡ true
   pub no_eyes : room.room.eyes ≡ []
   pub no_job : room.room.job ≡ None
+  pub whole : IsWhole room
   pub high : room.room.faults ≤ x.room.faults + sum_by (troubles state_of x) passes
   pub low : (x.room.faults + sum_by (troubles state_of x) passes ≤ room.room.faults) ⊎ (last_count ≤ room.room.faults)

@@ -4,6 +4,7 @@ pub mod Views
 pub mod Opening
 pub mod Closing
 pub mod Turning
+pub mod Posting
 pub mod Steps
 pub mod Merging
 pub mod Making

@@ -79,22 +79,31 @@ MergesNextOr old new (Err (merge_fault.Room room_fault.NoMemory)) = StaysUnshut 
 MergesNextOr old new (Err (merge_fault.Room room_fault.Disk)) = (old.room.is_shut ≡ false) × (new.room.is_shut ≡ true) × (new.room.parts ≡ old.room.parts) × (new.room.retired ≡ old.room.retired)
 MergesNextOr old new (Err (merge_fault.Room (room_fault.Shut epoch))) = (old.room.is_shut ≡ true) × (epoch ≡ old.room.sealed) × (new ≡ old)
 
--- the answers with which a call of the disk failed, or a read
-abbrev pub Failing : Result Bool MergeFault → Type 0 → Type 0 → Type 0
-Failing (Ok merged) failed none = none
-Failing (Err (merge_fault.Fetch fetch_fault.Failed)) failed none = failed
-Failing (Err (merge_fault.Fetch (fetch_fault.BadRow region at))) failed none = none
-Failing (Err (merge_fault.Fetch (fetch_fault.BadIndex region at))) failed none = none
-Failing (Err (merge_fault.Fetch fetch_fault.NoMemory)) failed none = none
-Failing (Err (merge_fault.Room room_fault.Disk)) failed none = failed
-Failing (Err (merge_fault.Room room_fault.NoMemory)) failed none = none
-Failing (Err (merge_fault.Room (room_fault.Shut epoch))) failed none = none
+-- the faults with which a call of the disk failed, or a read
+abbrev pub FailedCall : MergeFault → Type 0 → Type 0 → Type 0
+FailedCall (merge_fault.Fetch fetch_fault.Failed) failed none = failed
+FailedCall (merge_fault.Fetch (fetch_fault.BadRow region at)) failed none = none
+FailedCall (merge_fault.Fetch (fetch_fault.BadIndex region at)) failed none = none
+FailedCall (merge_fault.Fetch fetch_fault.NoMemory) failed none = none
+FailedCall (merge_fault.Room room_fault.Disk) failed none = failed
+FailedCall (merge_fault.Room room_fault.NoMemory) failed none = none
+FailedCall (merge_fault.Room (room_fault.Shut epoch)) failed none = none
 
--- the answers that name a bad place
-abbrev pub OnDamage : Result Bool MergeFault → Type 0 → Type 0
-OnDamage (Err (merge_fault.Fetch (fetch_fault.BadRow region at))) P = P
-OnDamage (Err (merge_fault.Fetch (fetch_fault.BadIndex region at))) P = P
-OnDamage _ P = ⊤
+-- and so of answers
+abbrev pub Failing : {A : Type 0} → Result A MergeFault → Type 0 → Type 0 → Type 0
+Failing (Ok done) failed none = none
+Failing (Err fault) failed none = FailedCall fault failed none
+
+-- the faults that name a bad place
+abbrev pub NamesPlace : MergeFault → Type 0 → Type 0
+NamesPlace (merge_fault.Fetch (fetch_fault.BadRow region at)) P = P
+NamesPlace (merge_fault.Fetch (fetch_fault.BadIndex region at)) P = P
+NamesPlace _ P = ⊤
+
+-- and so of answers
+abbrev pub OnDamage : {A : Type 0} → Result A MergeFault → Type 0 → Type 0
+OnDamage (Ok done) P = ⊤
+OnDamage (Err fault) P = NamesPlace fault P
 
 -- the log at entry was not told or not sound, or the room stands for no history of it
 abbrev pub StandsForNone : RoomValue → Type 0

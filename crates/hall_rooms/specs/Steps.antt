@@ -25,6 +25,7 @@ use Rattle.fine_hall.specs.Halls.{HallOf, MayGiveRoom, Posts, TakesRoom}
 use Rattle.hall_rooms.specs.Rooms.{IsRoomPass, RoomPass, room_state, room_log}
 use Rattle.hall_rooms.specs.Turning.{AddsEpoch, ErasesFirst, ErasesUnheld, LosesFirst, LosesTarget, RenewsSeats, SealedAndPosted, StillWaits, StopsPosting}
 use Rattle.hall_rooms.specs.Views.{with_faults}
+use Rattle.hall_rooms.specs.Posting.{PostsAll, PostsFirst, with_posted}
 
 -- ---- an entry
 
@@ -122,10 +123,6 @@ SealsWaitingOr old new (Err room_fault.NoMemory) = LeavesViews old new × SameEp
 
 -- ---- posting
 
--- a state with the board, the eyes and the count of all faults of another
-abbrev pub with_posted : RoomState → RoomState → RoomState
-with_posted room other = record room { board = other.board; eyes = other.eyes; given = other.given; faults = other.faults }
-
 -- a new view was posted to a seat, and the old middle was taken back
 pub record PostsTo (x : Beginning) (seat : ℕ) (t : TurnNote) (old new : RoomValue) (p p' : RoomPass) : Type 0 where
   pub view : ViewState
@@ -161,20 +158,19 @@ pub record PostedBelow (x : Beginning) (seats : ℕ) (found : RoomState) (room :
   pub upto : (i : ℕ) → i < seats → room.room.sealed ≤ slice_index note.posted i
   pub board : RenewsSeats seats found.given room.room.parts found.board room.room.board
 
--- A view was posted to some first seats, and none could be made for the next one. Nothing else changed but the eyes, the counts of faults, and
--- whether the room is shut.
-pub record PostsFirst (seats : ℕ) (old new : RoomState) : Type 0 where
-  pub upto : ℕ
-  pub not_all : upto < seats
-  pub same : new ≡ with_faults old new
-  pub board : RenewsSeats upto old.given new.parts old.board new.board
-
 -- how a loop over the seats ends
 abbrev pub PostsEachOr : Beginning → RoomValue → RoomValue → RoomPass → Result (Unit {0}) RoomFault → Type 0
 PostsEachOr x old new p' (Ok done) = PostedBelow x x.seats old.room new p' × (new.room.is_shut ≡ false)
 PostsEachOr x old new p' (Err room_fault.Disk) = IsFailedTurn x new p' × (old.room.is_shut ≡ false) × (new.room.is_shut ≡ true) × PostsFirst x.seats old.room new.room
 PostsEachOr x old new p' (Err (room_fault.Shut epoch)) = IsCleanTurn x new p' × (old.room.is_shut ≡ true) × (epoch ≡ old.room.sealed) × (new ≡ old)
 PostsEachOr x old new p' (Err room_fault.NoMemory) = IsCleanTurn x new p' × (old.room.is_shut ≡ false) × (new.room.is_shut ≡ false) × PostsFirst x.seats old.room new.room
+
+-- views are posted to all seats, and the sealed epoch is published
+abbrev pub PublishesOr : Beginning → RoomValue → RoomValue → RoomPass → Result ℕ RoomFault → Type 0
+PublishesOr x old new p' (Ok epoch) = IsCleanTurn x new p' × (old.room.is_shut ≡ false) × (epoch ≡ new.room.sealed) × (published p' ≡ epoch) × PostsAll old.room new.room x.seats
+PublishesOr x old new p' (Err room_fault.Disk) = IsFailedTurn x new p' × (old.room.is_shut ≡ false) × (new.room.is_shut ≡ true) × PostsFirst x.seats old.room new.room
+PublishesOr x old new p' (Err (room_fault.Shut epoch)) = IsCleanTurn x new p' × (old.room.is_shut ≡ true) × (epoch ≡ old.room.sealed) × (new ≡ old)
+PublishesOr x old new p' (Err room_fault.NoMemory) = IsCleanTurn x new p' × (old.room.is_shut ≡ false) × (new.room.is_shut ≡ false) × PostsFirst x.seats old.room new.room
 
 -- ---- sealing, posting and publishing
 

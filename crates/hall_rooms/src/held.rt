@@ -105,6 +105,13 @@ impl<D: LogDisk> HeldRoom<D> {
         self.room.fit(cost)
     }
 
+    /// As `Room::waiting`: how many entries wait in the open epoch.
+    pub fn waiting(&self) -> u64
+        ensures { result ≡ self.now.room.waiting }
+    {
+        self.room.waiting()
+    }
+
     /// As `Room::append`.
     pub fn append(&mut self, log: &PrivateLog) -> Stamp
         requires fits { fit_of self.old.room (cost log.now) ≡ fit.Fits }

@@ -1,16 +1,18 @@
 //! Laws of turns, for the crates above. The function does nothing: what counts is what it ensures.
 
 ghost use Rattle.hall_rooms.specs.Turning.{SealsIdle, SettlesIdle};
+ghost use Rattle.hall_rooms.specs.Posting.{ShowsIdle};
 ghost use Rattle.hall_rooms.specs.Merging.{MergesIdle};
-ghost use Rattle.hall_rooms.specs.Making.{MakesIdle, RenewsIdle, StuckThen};
+ghost use Rattle.hall_rooms.specs.Making.{RenewsIdle, StuckThen, TriesIdle};
 
 /// A pass that holds nothing and has no merge out, as the end of a hall asks, is such a pass again after a turn that seals and posts, after one
-/// that erases, after one that merges, and after one that makes room; so is each other pass that took its view in it.
+/// that posts alone, after one that erases, after one that merges, and after one that makes room; so is each other pass that took its view in it.
 pub fn idle_law()
     ensures seals { SealsIdle }
+    ensures shows { ShowsIdle }
     ensures settles { SettlesIdle }
     ensures merges { MergesIdle }
-    ensures makes { MakesIdle }
+    ensures tries { TriesIdle }
     ensures renews { RenewsIdle }
 {}
 

@@ -13,12 +13,12 @@ ghost use Rattle.hall_rooms.specs.declared.making.Space.TheVariants as space;
 ghost use Rattle.hall_rooms.specs.Steps.{IsCleanTurn};
 ghost use Rattle.hall_rooms.specs.Merging.{OnDamage};
 ghost use Rattle.hall_rooms.specs.Turning.{NotBegan};
-ghost use Rattle.hall_rooms.specs.Making.{AllAhead, ClearsMergedOr, ClearsOr, ErasesAndLooks, StayInTurn, GoesOn, IsCleared, MakesOr, MakesRoom, MergesClearedOr, RenewsEach, RoundOr, AreInTurn, TellsSpace, TriesRoom};
+ghost use Rattle.hall_rooms.specs.Making.{AllAhead, AreInTurn, ClearsMergedOr, ClearsOr, ErasesAndLooks, GoesOn, IsCleared, MakesOr, MergesClearedOr, NoneOpen, OnRenewed, RenewsEach, RoundOr, SameOpen, StayInTurn, TriesRoom};
 
 use crate::merging::merge_through;
 use crate::opening::RoomHall;
 use crate::settling::erase_unheld;
-use crate::showing::show;
+use crate::showing::post_and_publish;
 use crate::turn::{begin_turn, end_turn};
 use epoch_room::{Room, RoomFault};
 use fine_hall::Pass;
@@ -27,6 +27,40 @@ use partition_hold::View;
 use room_merges::MergeFault;
 use std::alloc::Global;
 use std::sync::Wait;
+
+/// How many rounds of views clearing makes at most. Where all passes of the hall are at hand two are enough, since no other view is out behind the
+/// second, which no clause says.
+const ROUNDS: u32 = 3;
+
+/// What making room came to.
+#[derive(Clone, Copy, Debug, PartialEq, Eq)]
+pub enum Space {
+    /// Something that was retired is erased, or two parts were merged.
+    Made,
+    /// Nothing was retired, no two neighbours fit, and two regions or more are free.
+    Enough,
+    /// Nothing was retired, no two neighbours fit, and fewer than two regions are free.
+    Stuck,
+    /// Some entry waits in the open epoch, and nothing was done.
+    Waits,
+    /// Behind so many rounds of views something is retired still, as where the pass of a seat is not at hand. Two parts may have been merged.
+    Held,
+}
+
+/// What it came to where nothing was merged, by whether something was retired, and with so many regions free.
+fn space_of(had_retired: bool, free: u32) -> Space
+    ensures made { had_retired ≡ true → result ≡ space.Made }
+    ensures stuck { had_retired ≡ false → free < 2 → result ≡ space.Stuck }
+    ensures enough { had_retired ≡ false → 2 ≤ free → result ≡ space.Enough }
+{
+    if had_retired {
+        Space::Made
+    } else if free < 2 {
+        Space::Stuck
+    } else {
+        Space::Enough
+    }
+}
 
 /// Each of some passes looks once at its mailbox.
 fn refresh_each<D: LogDisk>(hall: &RoomHall<D>, passes: &mut [Pass<View<D::Eye>>])
@@ -68,10 +102,10 @@ fn erase_and_look<D: LogDisk>(room: &mut Room<D>) -> Result<bool, RoomFault>
     }
 }
 
-/// Seals what waits, posts a view of all live parts to each seat, also where nothing waited, and publishes the sealed epoch; the passes take their
-/// views, and what no view names is erased. Answers whether nothing is retired.
+/// Posts a view of all live parts to each seat, and publishes the sealed epoch; the passes take their views, and what no view names is erased. Answers
+/// whether nothing is retired.
 ///
-/// Behind a refusal it stopped in sealing, in posting or in erasing, as `seal_and_post` and `settle_views` do.
+/// Behind a refusal it stopped in posting or in erasing, as `show_views` and `settle_views` do.
 fn renew_and_erase<D: LogDisk>(
     hall: &RoomHall<D>,
     pass: &mut Pass<View<D::Eye>>,
@@ -83,7 +117,7 @@ fn renew_and_erase<D: LogDisk>(
     ensures job { KeepsJob room.old.room room.new.room }
     ensures round { RoundOr (beginning_of hall.now) room.old room.new pass.new others.new result }
 {
-    match show(hall, pass, room) {
+    match post_and_publish(hall, pass, room) {
         Ok(_epoch) => {
             refresh_all(hall, pass, others, room);
             erase_and_look(room)
@@ -92,47 +126,47 @@ fn renew_and_erase<D: LogDisk>(
     }
 }
 
-/// Seals what waits, and renews the views of all passes and erases what none names until nothing is retired: some rounds, each of which left
-/// something retired, and one more. The sealed epoch is published then.
+/// Renews the views of all passes and erases what none names until nothing is retired, or up to the last round: some rounds, each of which left something
+/// retired, and one more. The sealed epoch is published then. Answers whether nothing is retired.
 ///
 /// Behind a refusal some rounds came to their end, each of which left something retired, and the next one stopped; nothing else was done to the
-/// chain, the buffers of the board, and what is retired, free, lost or waits.
-fn clear<D: LogDisk, W: Wait>(
-    rt: &W,
+/// chain, the epochs, the buffers of the board, and what is retired, free or lost.
+fn clear<D: LogDisk>(
     hall: &RoomHall<D>,
     pass: &mut Pass<View<D::Eye>>,
     others: &mut [Pass<View<D::Eye>>],
     room: &mut Room<D>,
-) -> Result<(), RoomFault>
+) -> Result<bool, RoomFault>
     requires part { AreInTurn hall.now room.old pass.old others.old }
+    requires none_waits { room.old.room.waiting ≡ 0 }
     requires no_job { room.old.room.job ≡ None }
     ensures goes { StayInTurn hall.now pass.old pass.new others.old others.new }
     ensures no_job { room.new.room.job ≡ None }
     ensures clears { ClearsOr (beginning_of hall.now) room.old room.new pass.new others.new result }
 {
-    for _ in rt.forever() {
+    for _ in 0..ROUNDS {
         match renew_and_erase(hall, pass, others, room) {
             Ok(is_done) => {
                 if is_done {
                     let _whole = room.counts();
-                    return Ok(());
+                    return Ok(true);
                 }
             }
             Err(fault) => return Err(fault),
         }
     }
-    unreachable!()
+    Ok(false)
 }
 
 /// Clears a room in which two were merged.
-fn clear_merged<D: LogDisk, W: Wait>(
-    rt: &W,
+fn clear_merged<D: LogDisk>(
     hall: &RoomHall<D>,
     pass: &mut Pass<View<D::Eye>>,
     others: &mut [Pass<View<D::Eye>>],
     room: &mut Room<D>,
-) -> Result<bool, MergeFault>
+) -> Result<Space, MergeFault>
     requires part { AreInTurn hall.now room.old pass.old others.old }
+    requires none_waits { room.old.room.waiting ≡ 0 }
     requires no_job { room.old.room.job ≡ None }
     ensures goes { StayInTurn hall.now pass.old pass.new others.old others.new }
     ensures no_job { room.new.room.job ≡ None }
@@ -141,16 +175,19 @@ fn clear_merged<D: LogDisk, W: Wait>(
     ensures publishes { IfOk result (λ made. published pass.new ≡ room.new.room.sealed) }
     ensures clears { ClearsMergedOr (beginning_of hall.now).seats room.old room.new result }
 {
-    match clear(rt, hall, pass, others, room) {
-        Ok(()) => Ok(true),
+    match clear(hall, pass, others, room) {
+        Ok(is_cleared) => {
+            if is_cleared {
+                return Ok(Space::Made);
+            }
+            Ok(Space::Held)
+        }
         Err(fault) => Err(MergeFault::Room(fault)),
     }
 }
 
-/// Merges the first neighbours that fit, in a room that was cleared, and clears it again where two were merged. Where none fit, the answer is as it
-/// is told.
-fn merge_cleared<D: LogDisk, W: Wait>(
-    rt: &W,
+/// Merges the first neighbours that fit, in a room that was cleared, and clears it again where two were merged.
+fn merge_cleared<D: LogDisk>(
     alloc: Global,
     hall: &RoomHall<D>,
     pass: &mut Pass<View<D::Eye>>,
@@ -158,7 +195,7 @@ fn merge_cleared<D: LogDisk, W: Wait>(
     room: &mut Room<D>,
     from: u64,
     had_retired: bool,
-) -> Result<bool, MergeFault>
+) -> Result<Space, MergeFault>
     requires part { AreInTurn hall.now room.old pass.old others.old }
     requires cleared { IsCleared room.old }
     requires ahead { IsAhead state_of (beginning_of hall.now) pass.old × AllAhead (beginning_of hall.now) others.old }
@@ -173,28 +210,27 @@ fn merge_cleared<D: LogDisk, W: Wait>(
 {
     match merge_through(alloc, room, from) {
         Ok(merged) => {
-            let _whole = room.counts();
+            let left = room.counts();
             if !merged {
-                return Ok(had_retired);
+                return Ok(space_of(had_retired, left.free));
             }
-            clear_merged(rt, hall, pass, others, room)
+            clear_merged(hall, pass, others, room)
         }
         Err(fault) => Err(fault),
     }
 }
 
-/// Clears the room, merges the first neighbours that fit, and clears it again where two were merged. Answers whether something was retired or two
-/// were merged.
-fn clear_and_merge<D: LogDisk, W: Wait>(
-    rt: &W,
+/// Clears a room in which nothing waits, merges the first neighbours that fit, and clears it again where two were merged.
+fn clear_and_merge<D: LogDisk>(
     alloc: Global,
     hall: &RoomHall<D>,
     pass: &mut Pass<View<D::Eye>>,
     others: &mut [Pass<View<D::Eye>>],
     room: &mut Room<D>,
     from: u64,
-) -> Result<bool, MergeFault>
+) -> Result<Space, MergeFault>
     requires part { AreInTurn hall.now room.old pass.old others.old }
+    requires none_waits { room.old.room.waiting ≡ 0 }
     requires no_job { room.old.room.job ≡ None }
     ensures goes { StayInTurn hall.now pass.old pass.new others.old others.new }
     ensures no_job { room.new.room.job ≡ None }
@@ -205,70 +241,66 @@ fn clear_and_merge<D: LogDisk, W: Wait>(
     ensures damage { OnDamage result (NotBegan (beginning_of hall.now)) }
 {
     let had_retired = room.retired(0).is_some();
-    match clear(rt, hall, pass, others, room) {
-        Ok(()) => merge_cleared(rt, alloc, hall, pass, others, room, from, had_retired),
+    match clear(hall, pass, others, room) {
+        Ok(is_cleared) => {
+            if !is_cleared {
+                return Ok(Space::Held);
+            }
+            merge_cleared(alloc, hall, pass, others, room, from, had_retired)
+        }
         Err(fault) => Err(MergeFault::Room(fault)),
     }
 }
 
-/// What making room came to.
-#[derive(Clone, Copy, Debug, PartialEq, Eq)]
-pub enum Space {
-    /// Something that was retired is erased, or two parts were merged.
-    Made,
-    /// Nothing was retired, no two neighbours fit, and two regions or more are free.
-    Enough,
-    /// Nothing was retired, no two neighbours fit, and fewer than two regions are free.
-    Stuck,
-}
-
-/// Tells what making room came to, by what is free then.
-fn tell_space<D: LogDisk>(
-    room: &Room<D>,
-    made: Result<bool, MergeFault>,
+/// Makes room where nothing waits, and does nothing where some entry does.
+fn make_space<D: LogDisk>(
+    alloc: Global,
+    hall: &RoomHall<D>,
+    pass: &mut Pass<View<D::Eye>>,
+    others: &mut [Pass<View<D::Eye>>],
+    room: &mut Room<D>,
+    from: u64,
 ) -> Result<Space, MergeFault>
-    ensures { TellsSpace room.now.room made result }
+    requires part { AreInTurn hall.now room.old pass.old others.old }
+    requires no_job { room.old.room.job ≡ None }
+    ensures goes { StayInTurn hall.now pass.old pass.new others.old others.new }
+    ensures no_job { room.new.room.job ≡ None }
+    ensures turn { GoesOn (beginning_of hall.now) room.new pass.new result }
+    ensures ahead { OnRenewed result (IsAhead state_of (beginning_of hall.now) pass.new × AllAhead (beginning_of hall.now) others.new) }
+    ensures publishes { OnRenewed result (published pass.new ≡ room.new.room.sealed) }
+    ensures makes { MakesOr (beginning_of hall.now).seats from room.old room.new result }
+    ensures same_open { SameOpen room.old.room room.new.room }
+    ensures none_open { NoneOpen room.old.room result }
+    ensures damage { OnDamage result (NotBegan (beginning_of hall.now)) }
 {
-    match made {
-        Ok(made) => Ok(space_of(made, room.counts().free)),
-        Err(fault) => Err(fault),
+    if room.counts().waiting != 0 {
+        return Ok(Space::Waits);
     }
-}
-
-/// What making room came to, with so many regions free.
-fn space_of(made: bool, free: u32) -> Space
-    ensures made { made ≡ true → result ≡ space.Made }
-    ensures stuck { made ≡ false → free < 2 → result ≡ space.Stuck }
-    ensures enough { made ≡ false → 2 ≤ free → result ≡ space.Enough }
-{
-    if made {
-        Space::Made
-    } else if free < 2 {
-        Space::Stuck
-    } else {
-        Space::Enough
-    }
+    let made = clear_and_merge(alloc, hall, pass, others, room, from);
+    let _left = room.counts();
+    made
 }
 
 /// Makes room in the log of a hall, with all its passes: the one of the seat 1, which has no merge out, and the others. It is one turn of the
-/// first, without an entry. What waits is sealed; each seat is posted a view of all live parts, which its pass takes, until no view names what is
-/// retired, and that is erased; then the first neighbours that fit are merged, through a view that is made for it, and in the same way the two
-/// are erased. Tried are first the neighbours of which the older one begins at an epoch or later, in chain order, and then those before it.
+/// first, without an entry, which leaves the epochs as they are. Where some entry waits it does nothing, and answers `Waits`. Else each seat is posted a view
+/// of all live parts, which its pass takes, until no view names what is retired, and that is erased; then the first neighbours that fit are merged, through a
+/// view that is made for it, and in the same way the two are erased. Tried are first the neighbours of which the older one begins at an epoch or later, in
+/// chain order, and then those before it.
 ///
-/// After each answer that is Ok nothing waits, nothing is retired, no merge is out, each region that is of no live part is free, and the sealed epoch
-/// is published; clearing did some whole rounds of sealing, posting and erasing, at least one, and nothing is retired behind the last. `Made` where two
-/// were merged, or something was retired and no two fit. `Enough` and `Stuck` exactly where nothing was retired and no two neighbours fit what is
-/// free, by what a read of the disk gives: `Stuck` with fewer than two free regions, in the same turn.
+/// Clearing is one to three whole rounds of posting and erasing, and the sealed epoch is published. After `Made`, `Enough` and `Stuck` nothing is retired, no
+/// merge is out, and each region that is of no live part is free. `Made` where two were merged, or something was retired and no two fit. `Enough` and `Stuck`
+/// exactly where nothing was retired and no two neighbours fit what is free, by what a read of the disk gives: `Stuck` with fewer than two free regions, in the
+/// same turn. `Held` where something is retired still behind three rounds: behind those of a first clearing nothing was merged, else two were.
 ///
-/// `Disk` comes only where the disk failed in this call, and the room is shut; `Shut` exactly where it was shut before, and the turn leaves it as it
-/// was. After `NoMemory` it is open. After a refusal of a read it is cleared, and the chain is as it was then; a bad place is named only where the log at
-/// entry was not told, or not sound. After `Disk` and `NoMemory` it stopped in clearing, in merging once the room was cleared, or in clearing behind two that
-/// were merged, which may be retired still. Clearing that stopped did some whole rounds of sealing, posting and erasing, and of the next one what
-/// `seal_and_post` and `settle_views` leave behind such a refusal, and nothing else was done to the chain, the buffers of the board, and what is
-/// retired, free, lost or waits: the chain is as it was, or has one part more, of the epoch behind the last sealed one.
+/// `Disk` comes only where the disk failed in this call, and the room is shut; `Shut` only where it was shut before, and the turn leaves it as it was: one
+/// that is shut, and in which some entry waits, answers `Waits`. After `NoMemory` it is open. After a refusal of a read it is cleared, and the chain is as it was
+/// then; a bad place is named only where the log at entry was not told, or not sound. After `Disk` and `NoMemory` it stopped in clearing, in merging once the
+/// room was cleared, or in clearing behind two that were merged, which may be retired still. Clearing that stopped did two whole rounds at most, and of the next
+/// one what `show_views` and `settle_views` leave behind such a refusal, and nothing else was done to the chain, the buffers of the board, and what is retired,
+/// free or lost.
 ///
-/// It may wait for the room, and it goes on until nothing is retired. With all passes of the hall here two rounds of views are enough, since no other
-/// view is out then, which no clause says; where one is missing it waits until that one looked at its mailbox.
+/// It may wait for the room. With all passes of the hall here two rounds of views are enough, since no other view is out then, which no clause says; where
+/// one is missing, what its views name is held.
 pub fn try_room<D: LogDisk, W: Wait>(
     rt: &W,
     alloc: Global,
@@ -286,54 +318,11 @@ pub fn try_room<D: LogDisk, W: Wait>(
     ensures others { (i : ℕ) (p : RoomPass) → get_elem? others.new i ≡ some p → IsRoomPass hall.now p }
     ensures numbers { map (λ p. p.number) others.new ≡ map (λ p. p.number) others.old }
     ensures renews { RenewsEach (beginning_of hall.now) others.old others.new }
-    ensures ahead { IfOk result (λ made. IsAhead state_of (beginning_of hall.now) pass.new × AllAhead (beginning_of hall.now) others.new) }
+    ensures ahead { OnRenewed result (IsAhead state_of (beginning_of hall.now) pass.new × AllAhead (beginning_of hall.now) others.new) }
     ensures tries { TriesRoom (beginning_of hall.now) from pass.old pass.new result }
 {
     let mut held = begin_turn(rt, hall, pass);
-    let room = held.room();
-    let made = clear_and_merge(rt, alloc, hall, pass, others, room, from);
-    let space = tell_space(room, made);
+    let made = make_space(alloc, hall, pass, others, held.room(), from);
     end_turn(hall, pass, held);
-    space
-}
-
-/// Whether room was made.
-fn is_made(found: Space) -> bool
-    ensures made { found ≡ space.Made → result ≡ true }
-    ensures enough { found ≡ space.Enough → result ≡ false }
-    ensures stuck { found ≡ space.Stuck → result ≡ false }
-{
-    match found {
-        Space::Made => true,
-        Space::Enough | Space::Stuck => false,
-    }
-}
-
-/// Makes room in the log of a hall, with all its passes, as `try_room` does. True where two were merged, or something was retired, which is erased;
-/// false exactly where nothing was retired and no two neighbours fit what is free, by what a read of the disk gives. The refusals are those of
-/// `try_room`, and leave the room as they do there.
-pub fn make_room<D: LogDisk, W: Wait>(
-    rt: &W,
-    alloc: Global,
-    hall: &RoomHall<D>,
-    pass: &mut Pass<View<D::Eye>>,
-    others: &mut [Pass<View<D::Eye>>],
-    from: u64,
-) -> Result<bool, MergeFault>
-    requires pass { IsRoomPass hall.now pass.old }
-    requires others { (i : ℕ) (p : RoomPass) → get_elem? others.old i ≡ some p → IsRoomPass hall.now p }
-    requires free { LacksPlace pass.old places.room }
-    requires first { pass.old.number ≡ 1 }
-    requires no_job { LacksJob (beginning_of hall.now) pass.old }
-    ensures pass { IsRoomPass hall.now pass.new × (pass.new.number ≡ pass.old.number) }
-    ensures others { (i : ℕ) (p : RoomPass) → get_elem? others.new i ≡ some p → IsRoomPass hall.now p }
-    ensures numbers { map (λ p. p.number) others.new ≡ map (λ p. p.number) others.old }
-    ensures renews { RenewsEach (beginning_of hall.now) others.old others.new }
-    ensures ahead { IfOk result (λ made. IsAhead state_of (beginning_of hall.now) pass.new × AllAhead (beginning_of hall.now) others.new) }
-    ensures makes { MakesRoom (beginning_of hall.now) from pass.old pass.new result }
-{
-    match try_room(rt, alloc, hall, pass, others, from) {
-        Ok(found) => Ok(is_made(found)),
-        Err(fault) => Err(fault),
-    }
+    made
 }

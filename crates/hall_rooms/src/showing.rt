@@ -1,4 +1,4 @@
-//! A turn of the room in which what waits is sealed, posted to all seats, and published.
+//! Turns of the room in which views are posted to all seats: one that seals what waits before, and one that seals nothing.
 
 ghost use Rattle.std.specs.Prelude.{◌≡◌, ◌≤◌};
 ghost use Rattle.fine_model.specs.Jobs.{KeepsJob};
@@ -6,7 +6,8 @@ ghost use Rattle.fine_places.specs.History as places;
 ghost use Rattle.fine_boxes.specs.declared.model.TurnNote.{TurnNote};
 ghost use Rattle.fine_hall.specs.Passes.{LacksPlace};
 ghost use Rattle.hall_rooms.specs.Rooms.{IsRoomPass, beginning_of};
-ghost use Rattle.hall_rooms.specs.Steps.{InTurn, IsCleanTurn, PostsEachOr, PostsOr, SealsWaitingOr, ShowsOr, StaysPass};
+ghost use Rattle.hall_rooms.specs.Steps.{InTurn, IsCleanTurn, PostsEachOr, PostsOr, PublishesOr, SealsWaitingOr, ShowsOr, StaysPass};
+ghost use Rattle.hall_rooms.specs.Posting.{ShowsViews};
 ghost use Rattle.hall_rooms.specs.Turning.{SealsAndPosts};
 
 use crate::opening::RoomHall;
@@ -73,8 +74,26 @@ fn post_to_each<D: LogDisk>(
     Ok(())
 }
 
+/// Posts a view of all live parts to each seat, and publishes the sealed epoch, which it answers. What waits still waits.
+pub(crate) fn post_and_publish<D: LogDisk>(
+    hall: &RoomHall<D>,
+    pass: &mut Pass<View<D::Eye>>,
+    room: &mut Room<D>,
+) -> Result<u64, RoomFault>
+    requires pass { IsRoomPass hall.now pass.old }
+    requires turn { IsCleanTurn (beginning_of hall.now) room.old pass.old }
+    ensures stays { StaysPass hall.now pass.old pass.new }
+    ensures job { KeepsJob room.old.room room.new.room }
+    ensures posts { PublishesOr (beginning_of hall.now) room.old room.new pass.new result }
+{
+    post_to_each(hall, pass, room)?;
+    let epoch = room.counts().sealed;
+    hall.publish(pass, epoch);
+    Ok(epoch)
+}
+
 /// Seals what waits, posts a view of all live parts to each seat, and publishes the sealed epoch, which it answers, also where nothing waited.
-pub(crate) fn show<D: LogDisk>(
+fn show<D: LogDisk>(
     hall: &RoomHall<D>,
     pass: &mut Pass<View<D::Eye>>,
     room: &mut Room<D>,
@@ -86,10 +105,7 @@ pub(crate) fn show<D: LogDisk>(
     ensures shows { ShowsOr (beginning_of hall.now) room.old room.new pass.new result }
 {
     seal_waiting(room)?;
-    post_to_each(hall, pass, room)?;
-    let epoch = room.counts().sealed;
-    hall.publish(pass, epoch);
-    Ok(epoch)
+    post_and_publish(hall, pass, room)
 }
 
 /// Seals what waits, posts a view of all live parts to each seat, takes the old middles back, and publishes the sealed epoch, which it answers: one turn
@@ -111,6 +127,29 @@ pub fn seal_and_post<D: LogDisk, W: Wait>(
 {
     let mut held = begin_turn(rt, hall, pass);
     let shown = show(hall, pass, held.room());
+    end_turn(hall, pass, held);
+    shown
+}
+
+/// Posts a view of all live parts to each seat, takes the old middles back, and publishes the sealed epoch, which it answers: one turn without an entry, which
+/// seals nothing. So views that name regions which were merged or erased since come back once the seats look at their mailboxes. It may wait for the room.
+///
+/// What waits still waits, and the epochs are as they were, with every answer. `Disk` comes only where the disk failed in this call, and the room is shut; `Shut`
+/// exactly where it was shut before, and the turn leaves it as it was. After `Disk` and `NoMemory` the first seats, but not all, have their views, and nothing
+/// else of the room changed but the eyes and the counts of faults. Nothing is published then, of which the clauses say only that the published number does
+/// not fall.
+pub fn show_views<D: LogDisk, W: Wait>(
+    rt: &W,
+    hall: &RoomHall<D>,
+    pass: &mut Pass<View<D::Eye>>,
+) -> Result<u64, RoomFault>
+    requires pass { IsRoomPass hall.now pass.old }
+    requires free { LacksPlace pass.old places.room }
+    ensures pass { IsRoomPass hall.now pass.new × (pass.new.number ≡ pass.old.number) }
+    ensures shows { ShowsViews (beginning_of hall.now) pass.old pass.new result }
+{
+    let mut held = begin_turn(rt, hall, pass);
+    let shown = post_and_publish(hall, pass, held.room());
     end_turn(hall, pass, held);
     shown
 }

@@ -31,7 +31,7 @@ use Rattle.epoch_room.specs.declared.answers.Fit.TheVariants as fit
 use Rattle.epoch_room.specs.declared.answers.Stamp.{Stamp}
 use Rattle.fine_hall.specs.declared.law.Beginning.{Beginning}
 use Rattle.fine_hall.specs.Turns.{added, commits, in_bucket, is_call_in, is_in, room_after}
-use Rattle.fine_hall.specs.Laws.{AreTurns, IsRoomFor}
+use Rattle.fine_hall.specs.Laws.{AreTurns, CountsEpochs, IsRoomFor}
 use Rattle.fine_hall.specs.Passes.{first_given, known, turns, seen, published, last_room, HasPlace, LacksPlace, HoldsNothing}
 use Rattle.fine_hall.specs.Halls.{GivesRoom, MayGiveRoom, Reads, SeesMore, TakesRoom, turn_of}
 use Rattle.fine_hall.proofs.Counting.{counts_more}
@@ -41,11 +41,12 @@ use Rattle.fine_hall.proofs.Turning.{commits_one}
 use Rattle.key_locks.specs.Locks.{LacksLock, HasLock, AreLocksOf, Releases}
 use Rattle.key_locks.proofs.Held.{far, held_beside, lacks_place}
 use Rattle.txn_engine.specs.declared.txn.CommitFault.{CommitFault}
+use Rattle.txn_engine.specs.declared.txn.Committed.{Committed}
 use Rattle.txn_engine.specs.declared.txn.Txn.{Txn}
 use Rattle.txn_engine.specs.Faults.{refusal_of}
 use Rattle.hall_rooms.specs.Rooms.{RoomPass, room_log, room_state}
 use Rattle.hall_rooms.specs.Turning.{MeetsNone, TakesTurn}
-use Rattle.txn_engine.specs.Txns.{Commits, GivesBack, HoldsNone, IsAnsweredOn, IsOpenOn, IsOpenTxn, IsRefused}
+use Rattle.txn_engine.specs.Txns.{CommitsCounted, GivesBack, HoldsNone, IsAnsweredOn, IsOpenOn, IsOpenTxn, IsRefused}
 use Rattle.txn_engine.proofs.Held.{same_calls}
 use Rattle.txn_engine.proofs.Open.{open_seen}
 use Rattle.txn_engine.proofs.Releasing.{StandAt, gives_settled, locks_read}
@@ -239,37 +240,44 @@ module _ (x : Beginning) (t : Txn) (p p₀ p₁ : RoomPass) (number₀ : p₀.nu
       pub stand_now : (locks : List (Option Cache)) → StandAt x (published p₁) (seen p₁ ++ commit ∷ []) locks → StandAt x (published p₂) (seen p₂) locks
       stand_now locks all = subst (λ n. StandAt x n (seen p₂) locks) (sym g.same_published) (subst (λ h. StandAt x (published p₁) h locks) (sym seen_now) all)
 
-      pub committed : (keep : ℕ) (fits : fit_of r.room (cost t.draft.rows) ≡ fit.Fits) (t' : Txn) (p₃ : RoomPass) (locks : List (Option Cache)) (stamp : Stamp) → p₃.number ≡ p₂.number → stamp ≡ record { place = r.room.places + 1; epoch = epoch }
-          → t'.draft ≡ blank t.draft.lane t.draft.turn → AreLocksOf t'.locks p₃ → HoldsNone t'.locks → Releases locks t'.locks p₂ p₃ → (upto : ℕ) → upto ≡ published p₀ → GivesBack (λ b. evicted upto keep (settled stamp.epoch b)) t t' → Commits x keep t t' p p₃ stamp
-      committed keep fits t' p₃ locks stamp number₃ stamped draft are none q upto is_upto gives =
+      pub committed : (keep : ℕ) (fits : fit_of r.room (cost t.draft.rows) ≡ fit.Fits) (t' : Txn) (p₃ : RoomPass) (locks : List (Option Cache)) (done : Committed) → p₃.number ≡ p₂.number → done.stamp ≡ record { place = r.room.places + 1; epoch = epoch }
+          → t'.draft ≡ blank t.draft.lane t.draft.turn → AreLocksOf t'.locks p₃ → HoldsNone t'.locks → Releases locks t'.locks p₂ p₃ → (upto : ℕ) → upto ≡ published p₀ → GivesBack (λ b. evicted upto keep (settled done.stamp.epoch b)) t t'
+          → done.entry ≡ entry_of t.draft → done.waiting ≡ new.room.waiting → CommitsCounted x keep t t' p p₃ done
+      committed keep fits t' p₃ locks done number₃ stamped draft are none q upto is_upto gives entry waits =
           let turn = the_turn (Some (entry_of t.draft)) epoch new.room p₂ number₂ g in
+          let stamp = done.stamp in
           record {
-            found = r.room;
-            room = new.room;
-            turn = subst (λ (s : Stamp). TakesTurn x r.room (Some (entry_of t.draft)) s.epoch new.room p p₃) (sym stamped) (record {
-              one = record {
-                others = turn.others;
-                not_own = turn.not_own;
-                kept = turn.kept;
-                found_is = turn.found_is;
-                no_earlier = subst (λ n. published p ≤ n) (sym q.same_published) turn.no_earlier;
-                found_job = turn.found_job;
-                returned = turn.returned;
-                turns_more = q.same_turns ∙ turn.turns_more;
-                own_more = q.same_own ∙ turn.own_more;
-              };
-              front = (q.views.front.0 ∙ turn.front.0, q.views.front.1 ∙ turn.front.1);
-              given_same = ap first_given (ap (λ y. y.notes) q.views.reads) ∙ turn.given_same;
-            });
-            fits = fits;
-            appends = (r, refl, ap (λ (v : RoomValue). v.room) is);
-            job = job;
-            epoch = ap (λ (s : Stamp). s.epoch) stamped;
-            place = ap (λ (s : Stamp). s.place) stamped ∙ (ap (λ n. n + 1) stands.places ∙ sym (ap (λ l. length (commits l)) q.same_turns ∙ (ap length seen_now ∙ length-append (seen p₁) (commit ∷ []))));
-            blank_now = (draft, none);
-            nothing = nothing;
-            evicts = gives_settled keep stamp.epoch upto t t' p p₀ p₁ p₂ p₃ read is_upto k.takes.sees.no_earlier g.same_published q.same_published gives;
-            meets = ((troubles_law state_of x).same p₂ p₃ number₃).turns_stay q.same_turns q.views ∙ meets_none (Some (entry_of t.draft)) epoch new.room p₂ number₂ g faults_are;
+            commits = record {
+              found = r.room;
+              room = new.room;
+              turn = subst (λ (s : Stamp). TakesTurn x r.room (Some (entry_of t.draft)) s.epoch new.room p p₃) (sym stamped) (record {
+                one = record {
+                  others = turn.others;
+                  not_own = turn.not_own;
+                  kept = turn.kept;
+                  found_is = turn.found_is;
+                  no_earlier = subst (λ n. published p ≤ n) (sym q.same_published) turn.no_earlier;
+                  found_job = turn.found_job;
+                  returned = turn.returned;
+                  turns_more = q.same_turns ∙ turn.turns_more;
+                  own_more = q.same_own ∙ turn.own_more;
+                };
+                front = (q.views.front.0 ∙ turn.front.0, q.views.front.1 ∙ turn.front.1);
+                given_same = ap first_given (ap (λ y. y.notes) q.views.reads) ∙ turn.given_same;
+              });
+              fits = fits;
+              appends = (r, refl, ap (λ (v : RoomValue). v.room) is);
+              job = job;
+              epoch = ap (λ (s : Stamp). s.epoch) stamped;
+              place = ap (λ (s : Stamp). s.place) stamped ∙ (ap (λ n. n + 1) stands.places ∙ sym (ap (λ l. length (commits l)) q.same_turns ∙ (ap length seen_now ∙ length-append (seen p₁) (commit ∷ []))));
+              blank_now = (draft, none);
+              nothing = nothing;
+              evicts = gives_settled keep stamp.epoch upto t t' p p₀ p₁ p₂ p₃ read is_upto k.takes.sees.no_earlier g.same_published q.same_published gives;
+              meets = ((troubles_law state_of x).same p₂ p₃ number₃).turns_stay q.same_turns q.views ∙ meets_none (Some (entry_of t.draft)) epoch new.room p₂ number₂ g faults_are;
+            };
+            entry = entry;
+            counts = subst (CountsEpochs x new.room) (sym (ap commits q.same_turns ∙ seen_now)) may_some.epochs;
+            waits = waits;
           }
         where
           nothing : HoldsNothing p₃

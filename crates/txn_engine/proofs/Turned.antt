@@ -14,7 +14,7 @@ use Rattle.fine_hall.proofs.Turning.{commits_one}
 use Rattle.hall_rooms.specs.Rooms.{RoomPass}
 use Rattle.hall_rooms.proofs.Left.{job_left, last_is}
 use Rattle.key_locks.proofs.Held.{held_alike}
-use Rattle.txn_engine.specs.Laws.{MakesLaw, MakesNoJob, SealsLaw, SealsNoJob, TurnLaw}
+use Rattle.txn_engine.specs.Laws.{SealsLaw, SealsNoJob, ShowsLaw, ShowsNoJob, TriesLaw, TriesNoJob, TurnLaw}
 use Rattle.txn_engine.specs.Txns.{IsOpenOn}
 use Rattle.txn_engine.proofs.Open.{open_legal}
 
@@ -44,13 +44,19 @@ turn_law x t p p' found room turn before after free o = record {
 pub seals_law : SealsLaw
 seals_law x t p p' r s = turn_law x t p p' s.found s.room (record { one = s.turn.one; same_held = s.same_held })
 
-pub makes_law : MakesLaw
-makes_law x t p p' from r m = turn_law x t p p' m.found.room m.room.room m.turn
+pub shows_law : ShowsLaw
+shows_law x t p p' r s = turn_law x t p p' s.found s.room (record { one = s.turn.one; same_held = s.same_held })
+
+pub tries_law : TriesLaw
+tries_law x t p p' from r m = turn_law x t p p' m.found.room m.room.room m.turn
 
 -- ---- the merge that is out
 
-pub makes_no_job : MakesNoJob
-makes_no_job x p p' from r m one = ap (λ (r : RoomState). r.job) (last_is x m.found.room None 0 m.room.room p p' m.turn.one) ∙ m.no_job.1
+pub tries_no_job : TriesNoJob
+tries_no_job x p p' from r m one = ap (λ (r : RoomState). r.job) (last_is x m.found.room None 0 m.room.room p p' m.turn.one) ∙ m.no_job.1
 
 pub seals_no_job : SealsNoJob
 seals_no_job x p p' r number s lacks = job_left x s.found None 0 s.room p p' number s.turn.one s.job lacks
+
+pub shows_no_job : ShowsNoJob
+shows_no_job x p p' r number s lacks = job_left x s.found None 0 s.room p p' number s.turn.one s.job lacks

@@ -1,5 +1,5 @@
 -- Laws of open transactions.
-use Rattle.std.specs.Prelude.{◌≡◌, ℕ, ◌<◌, ◌++◌, Bool, true, false, List, Result}
+use Rattle.std.specs.Prelude.{◌≡◌, ℕ, ◌<◌, ◌++◌, true, false, List, Result}
 use Rattle.std.specs.List.{list_any}
 use lib.ListN.{get_elem?}
 use Rattle.fine_model.specs.declared.Row.{Row}
@@ -15,7 +15,9 @@ use Rattle.fine_hall.specs.Laws.{AreTurns}
 use Rattle.fine_places.specs.History as places
 use Rattle.fine_hall.specs.Passes.{known, turns, seen, HasPlace, LacksPlace, HoldsNothing, LacksJob}
 use Rattle.fine_hall.specs.Halls.{SeesMore}
-use Rattle.hall_rooms.specs.Making.{AddsTurn, MakesRoom}
+use Rattle.hall_rooms.specs.declared.making.Space.{Space}
+use Rattle.hall_rooms.specs.Making.{AddsTurn, TriesRoom}
+use Rattle.hall_rooms.specs.Posting.{ShowsViews}
 use Rattle.hall_rooms.specs.Turning.{SealsAndPosts}
 use Rattle.hall_rooms.specs.Rooms.{RoomPass}
 use Rattle.txn_engine.specs.declared.txn.CommitFault.{CommitFault}
@@ -47,22 +49,30 @@ abbrev pub TurnLaw : Type 0
 TurnLaw =
     (x : Beginning) (t : Txn) (p p' : RoomPass) (found room : RoomState) → AddsTurn x found room p p' → AreTurns x (turns p) → AreTurns x (turns p') → LacksPlace p places.room → IsOpenTxn x t p → IsOpenTxn x t p'
 
--- over one that made room, or tried to, whatever it came to
-abbrev pub MakesLaw : Type 0
-MakesLaw =
-    (x : Beginning) (t : Txn) (p p' : RoomPass) (from : ℕ) (r : Result Bool MergeFault) → MakesRoom x from p p' r → AreTurns x (turns p) → AreTurns x (turns p') → LacksPlace p places.room → IsOpenTxn x t p → IsOpenTxn x t p'
+-- over one that tried to make room, whatever it came to
+abbrev pub TriesLaw : Type 0
+TriesLaw =
+    (x : Beginning) (t : Txn) (p p' : RoomPass) (from : ℕ) (r : Result Space MergeFault) → TriesRoom x from p p' r → AreTurns x (turns p) → AreTurns x (turns p') → LacksPlace p places.room → IsOpenTxn x t p → IsOpenTxn x t p'
 
--- and over one that sealed what waits, or tried to
+-- over one that sealed what waits, or tried to
 abbrev pub SealsLaw : Type 0
 SealsLaw =
     (x : Beginning) (t : Txn) (p p' : RoomPass) (r : Result ℕ RoomFault) → SealsAndPosts x p p' r → AreTurns x (turns p) → AreTurns x (turns p') → LacksPlace p places.room → IsOpenTxn x t p → IsOpenTxn x t p'
 
--- Whatever such a pass holds, no merge is out behind a turn that made room, and none behind one that sealed where none was before.
-abbrev pub MakesNoJob : Type 0
-MakesNoJob = (x : Beginning) (p p' : RoomPass) (from : ℕ) (r : Result Bool MergeFault) → MakesRoom x from p p' r → LacksJob x p'
+-- and over one that posted views alone, or tried to
+abbrev pub ShowsLaw : Type 0
+ShowsLaw =
+    (x : Beginning) (t : Txn) (p p' : RoomPass) (r : Result ℕ RoomFault) → ShowsViews x p p' r → AreTurns x (turns p) → AreTurns x (turns p') → LacksPlace p places.room → IsOpenTxn x t p → IsOpenTxn x t p'
+
+-- Whatever such a pass holds, no merge is out behind a turn that made room, and none behind one that sealed or posted where none was before.
+abbrev pub TriesNoJob : Type 0
+TriesNoJob = (x : Beginning) (p p' : RoomPass) (from : ℕ) (r : Result Space MergeFault) → TriesRoom x from p p' r → LacksJob x p'
 
 abbrev pub SealsNoJob : Type 0
 SealsNoJob = (x : Beginning) (p p' : RoomPass) (r : Result ℕ RoomFault) → p'.number ≡ p.number → SealsAndPosts x p p' r → LacksJob x p → LacksJob x p'
+
+abbrev pub ShowsNoJob : Type 0
+ShowsNoJob = (x : Beginning) (p p' : RoomPass) (r : Result ℕ RoomFault) → p'.number ≡ p.number → ShowsViews x p p' r → LacksJob x p → LacksJob x p'
 
 -- ---- what a pass has out
 

@@ -36,6 +36,7 @@ use Rattle.epoch_room.specs.declared.answers.Fit.TheVariants as fit
 use Rattle.epoch_room.specs.declared.answers.Stamp.{Stamp}
 use Rattle.fine_places.specs.History as places
 use Rattle.fine_hall.specs.declared.law.Beginning.{Beginning}
+use Rattle.fine_hall.specs.Laws.{CountsEpochs}
 use Rattle.fine_hall.specs.Passes.{known, seen, published, found_held, front_of, troubles, HasPlace, LacksPlace, HoldsNothing}
 use Rattle.fine_hall.specs.Halls.{SeesMore}
 use Rattle.key_locks.specs.Locks.{HasLock, LacksLock, AreLocksOf}
@@ -80,6 +81,13 @@ pub record IsOpenTxn (x : Beginning) (t : Txn) (p : RoomPass) : Type 0 where
 
 abbrev pub HoldsNone : List (Option Cache) → Type 0
 HoldsNone locks = (k : ℕ) → k < 256 → LacksLock locks k
+
+-- a transaction that holds nothing, and of which no call was answered
+pub record IsBlankTxn (t : Txn) : Type 0 where
+  pub lane : ℕ
+  pub turn : ℕ
+  pub is_blank : t.draft ≡ blank lane turn
+  pub none : HoldsNone t.locks
 
 -- the replies of an open transaction that is not failed are the store's to its calls, on all that the pass saw
 abbrev pub AreReplies : Beginning → Txn → RoomPass → Type 0
@@ -238,8 +246,15 @@ pub record IsRefused (x : Beginning) (t t' : Txn) (p p' : RoomPass) (cause : Com
   pub held : (known p').held ≡ (known p).held
   pub meets : MeetsNone x p p'
 
+-- It is handed out with its entry, and with how many entries then wait in the open epoch, by the epochs of all that the pass saw.
+pub record CommitsCounted (x : Beginning) (keep : ℕ) (t t' : Txn) (p p' : RoomPass) (done : Committed) : Type 0 where
+  pub commits : Commits x keep t t' p p' done.stamp
+  pub entry : done.entry ≡ entry_of t.draft
+  pub counts : CountsEpochs x commits.room (seen p')
+  pub waits : done.waiting ≡ commits.room.waiting
+
 abbrev pub CommitsOr : Beginning → ℕ → Txn → Txn → RoomPass → RoomPass → Result Committed CommitFault → Type 0
-CommitsOr x keep t t' p p' (Ok done) = Commits x keep t t' p p' done.stamp × (done.entry ≡ entry_of t.draft)
+CommitsOr x keep t t' p p' (Ok done) = CommitsCounted x keep t t' p p' done
 CommitsOr x keep t t' p p' (Err cause) = IsRefused x t t' p p' cause
 
 -- All was taken back, and all buckets were given back, without what is published, but for so many nodes; the pass had no turn.

@@ -43,6 +43,9 @@ impl Txn {
     /// Commits in one turn of the room, as one entry of the open epoch, gives all buckets back, and hands the entry out. It may wait for the room, and takes no
     /// memory.
     ///
+    /// The number of entries that wait in the open epoch comes with it, this one included, as the room of this turn has it: they are those of the open epoch in
+    /// all that the pass saw.
+    ///
     /// What was done to the buckets is kept under the entry's epoch, and what is published is evicted, but for `keep` nodes of each bucket: up to a number that is
     /// not below the published one that the pass knew, nor above the one that it then knows. A refusal is the first that the numbers of the room give, which is
     /// handed back as it was found; the transaction is as it was.
@@ -65,11 +68,16 @@ impl Txn {
         match refusal(room.fit(self.draft.cost())) {
             None => {
                 let stamp = room.append(self.draft.log());
+                let waiting = room.waiting();
                 let entry = self.draft.take_entry();
                 hall.give_room(pass, room, Some(&entry), stamp.epoch);
                 settle_all(&mut self.locks, stamp.epoch, published, keep);
                 self.given_back = self.locks.release_all(hall, pass);
-                Ok(Committed { stamp, entry })
+                Ok(Committed {
+                    stamp,
+                    entry,
+                    waiting,
+                })
             }
             Some(cause) => {
                 hall.give_room(pass, room, None, 0);

@@ -1,6 +1,6 @@
 //! Laws of open transactions, each the contract of a function that does nothing.
 
-ghost use Rattle.txn_engine.specs.Laws.{AbortsIdle, BeginsLaw, CommitsIdle, LocalLaw, MakesLaw, MakesNoJob, RefusedJob, RepliesLaw, SealsLaw, SealsNoJob, SeenLaw, TurnLaw};
+ghost use Rattle.txn_engine.specs.Laws.{AbortsIdle, BeginsLaw, CommitsIdle, LocalLaw, RefusedJob, RepliesLaw, SealsLaw, SealsNoJob, SeenLaw, ShowsLaw, ShowsNoJob, TriesLaw, TriesNoJob, TurnLaw};
 
 /// A new transaction is open on a pass that holds no bucket, and an open one stays so once the pass saw more and holds the same buckets.
 pub fn open_law()
@@ -8,15 +8,17 @@ pub fn open_law()
     ensures seen { SeenLaw }
 {}
 
-/// An open transaction of a pass without the room stays open over a turn of this pass without an entry, in which it kept its buckets [`turn`], such as one that makes room [`makes`] or seals what
-/// waits [`seals`], whatever that comes to. No merge is out behind it then, whatever the pass holds [`makes_no_job`, `seals_no_job`]. So a commit that was refused for want of space may be tried again, as often as
-/// wanted. The transactions of the other passes that looked in their mailboxes meanwhile stay open by `open_law`.
+/// An open transaction of a pass without the room stays open over a turn of this pass without an entry, in which it kept its buckets [`turn`], such as one that makes room [`tries`], seals what
+/// waits [`seals`] or posts views alone [`shows`], whatever that comes to. No merge is out behind it then, whatever the pass holds [`tries_no_job`, `seals_no_job`, `shows_no_job`]. So a commit that was
+/// refused for want of space may be tried again, as often as wanted. The transactions of the other passes that looked in their mailboxes meanwhile stay open by `open_law`.
 pub fn turn_law()
     ensures turn { TurnLaw }
-    ensures makes { MakesLaw }
+    ensures tries { TriesLaw }
     ensures seals { SealsLaw }
-    ensures makes_no_job { MakesNoJob }
+    ensures shows { ShowsLaw }
+    ensures tries_no_job { TriesNoJob }
     ensures seals_no_job { SealsNoJob }
+    ensures shows_no_job { ShowsNoJob }
 {}
 
 /// What a transaction answered stays its answer while others commit in buckets that its pass does not hold.

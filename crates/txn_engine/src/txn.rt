@@ -2,7 +2,7 @@
 
 ghost use Rattle.std.specs.Prelude.{◌≡◌, IfOk};
 ghost use Rattle.txn_draft.specs.Drafts.{blank};
-ghost use Rattle.txn_engine.specs.Txns.{HoldsNone};
+ghost use Rattle.txn_engine.specs.Txns.{HoldsNone, IsBlankTxn};
 
 use epoch_room::Stamp;
 use fine_model::{Entry, NoMemory, NodeId, Reply};
@@ -22,11 +22,13 @@ pub struct Txn {
     pub(crate) given_back: Snapshot<LockSet<HeldBucket>>,
 }
 
-/// What became of a commit: its place and its epoch, and the entry, with the replies to all calls.
+/// What became of a commit: its place and its epoch, the entry, with the replies to all calls, and how many entries wait in the open epoch behind
+/// it, this one included.
 #[derive(Drop)]
 pub struct Committed {
     pub stamp: Stamp,
     pub entry: Entry,
+    pub waiting: u64,
 }
 
 /// Why a call was refused.
@@ -79,6 +81,17 @@ impl Txn {
             locks,
             given_back,
         })
+    }
+
+    /// Begins anew, as a transaction of a lane, with its number in the script. It was not used yet, or was committed or aborted since, and no call was answered
+    /// behind that.
+    ///
+    /// It takes no memory: the places of the buckets stay, and what was given back last is told still. The lists of its answers are new and empty.
+    pub fn begin(&mut self, lane: u8, turn: u32)
+        requires { IsBlankTxn self.old }
+        ensures { self.new ≡ record self.old { draft = blank lane turn } }
+    {
+        self.draft = Draft::new(self.alloc, lane, turn);
     }
 
     /// Whether a call since the beginning, or since the last commit or abort, answered `NoMemory`. The transaction can then only be aborted.

@@ -1,14 +1,14 @@
 //! Tables of steps on halls on disks in memory.
 
 use epoch_room::{Counts, RoomFault};
-use hall_accounts::Act::{MakeRoom, Merge, One, TryRoom, Two};
+use hall_accounts::Act::{Merge, One, TryAlone, TryRoom, Two};
 use hall_accounts::Step::{
-    Abort, AbortKeeping, Commit, CommitKeeping, Get, GetIn, Put, PutIn, Scan, Settle, Show,
-    TryCommit,
+    Abort, AbortKeeping, Begin, Commit, CommitKeeping, Get, GetIn, Post, Put, PutIn, Scan, Settle,
+    Show, TellCommit, TryCommit,
 };
 use hall_accounts::Told::{
-    Aborted, Balance, Committed, Merged, NoPlace, NotSettled, NotShown, Refused, Room, RoomMade,
-    Settled, Shown, Stored, Sum,
+    Aborted, Balance, Begun, Committed, Entry, Merged, NoPlace, NotSettled, NotShown, Refused,
+    Room, Settled, Shown, Stored, Sum,
 };
 use hall_accounts::{Line, Outcome, two_threads, walked};
 use log_disk::FaultPlan;
@@ -288,9 +288,8 @@ fn room_is_made_of_four_parts(rt: HostRuntime) -> Result<(), Fail> {
         Line(Two(Settle), Settled(2)),
         Line(One(Settle), Settled(0)),
         Line(TryRoom, Room(Space::Made)),
-        Line(MakeRoom, RoomMade(true)),
+        Line(TryRoom, Room(Space::Made)),
         Line(Merge, Merged(false)),
-        Line(MakeRoom, RoomMade(false)),
         Line(TryRoom, Room(Space::Enough)),
         Line(Two(Put(2, 7)), Stored),
         Line(Two(Commit), Committed(5, 5)),
@@ -326,6 +325,7 @@ fn a_failing_disk_shuts_the_room(rt: HostRuntime) -> Result<(), Fail> {
         Line(Two(Show), NotShown(RoomFault::Disk)),
         Line(One(TryCommit), NoPlace(CommitFault::Shut { epoch: 1 })),
         Line(Two(Show), NotShown(shut)),
+        Line(One(Post), NotShown(shut)),
         Line(Two(Settle), NotSettled(shut)),
         Line(One(Get(1)), Balance(9)),
         Line(One(Get(3)), Refused(TxnFault::Disk)),
@@ -349,6 +349,84 @@ fn a_failing_disk_shuts_the_room(rt: HostRuntime) -> Result<(), Fail> {
         assert!(rt; outcome == Outcome::Room(counts(6, 1, 1, 2, 1)));
     }
     Ok(())
+}
+
+// Each commit tells how many entries wait behind it, and the number with which its transaction began. Room is made where none waits, and else not, and views are
+// posted meanwhile, which changes nothing of what waits.
+#[test]
+fn what_waits_is_told(rt: HostRuntime) -> Result<(), Fail> {
+    let alloc = rt.alloc();
+    let table = [
+        Line(One(Begin(7)), Begun),
+        Line(Two(Begin(8)), Begun),
+        Line(TryRoom, Room(Space::Enough)),
+        Line(One(Put(1, 10)), Stored),
+        Line(TryRoom, Room(Space::Enough)),
+        Line(One(TellCommit), Entry(1, 1, 1, 7)),
+        Line(TryRoom, Room(Space::Waits)),
+        Line(TryAlone, Room(Space::Waits)),
+        Line(One(Post), Shown(0)),
+        Line(Two(Put(2, 5)), Stored),
+        Line(Two(TellCommit), Entry(2, 1, 2, 8)),
+        Line(Two(Post), Shown(0)),
+        Line(One(Put(1, 9)), Stored),
+        Line(One(TellCommit), Entry(3, 1, 3, 7)),
+        Line(TryRoom, Room(Space::Waits)),
+        Line(Two(Show), Shown(1)),
+        Line(Two(Post), Shown(1)),
+        Line(TryRoom, Room(Space::Enough)),
+        Line(One(Put(1, 8)), Stored),
+        Line(One(Begin(9)), Begun),
+        Line(One(Get(1)), Balance(9)),
+        Line(One(Put(1, 10)), Stored),
+        Line(One(TellCommit), Entry(4, 2, 1, 9)),
+        Line(TryRoom, Room(Space::Waits)),
+        Line(Two(Scan), Sum(15)),
+        Line(Two(TellCommit), Entry(5, 2, 2, 8)),
+        Line(One(Scan), Sum(15)),
+    ];
+    ends_with(&rt, alloc, &[&table], counts(6, 1, 1, 5, 2))
+}
+
+// Of four parts two are merged and retired. The view of the seat 2 is of the time when the first of them was the only part: without its pass this one is held, until
+// the pass took a new view, and views were posted again. Then the next two are merged, and both are held by the view that it took.
+#[test]
+fn what_a_view_names_is_held(rt: HostRuntime) -> Result<(), Fail> {
+    let alloc = rt.alloc();
+    let second = [
+        Line(Two(Put(2, 5)), Stored),
+        Line(Two(Commit), Committed(2, 2)),
+        Line(Two(Show), Shown(2)),
+    ];
+    let table = [
+        Line(Merge, Merged(true)),
+        Line(Two(Settle), Settled(0)),
+        Line(TryAlone, Room(Space::Held)),
+        Line(Two(Settle), Settled(0)),
+        Line(Two(Get(2)), Balance(5)),
+        Line(Two(Settle), Settled(0)),
+        Line(One(Post), Shown(4)),
+        Line(Two(Settle), Settled(1)),
+        Line(TryAlone, Room(Space::Held)),
+        Line(Two(Settle), Settled(0)),
+        Line(TryRoom, Room(Space::Made)),
+        Line(Two(Settle), Settled(0)),
+        Line(One(Put(1, 10)), Stored),
+        Line(One(TellCommit), Entry(5, 5, 1, 1)),
+        Line(Two(Scan), Sum(15)),
+    ];
+    ends_with(
+        &rt,
+        alloc,
+        &[
+            &sealed(1, 10),
+            &second,
+            &sealed(3, 9),
+            &sealed(4, 8),
+            &table,
+        ],
+        counts(6, 1, 4, 5, 1),
+    )
 }
 
 // Seven sealed epochs leave one free region, which is kept for merging: a commit is refused, room is made while both transactions are open, and both commit.

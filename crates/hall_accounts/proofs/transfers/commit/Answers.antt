@@ -12,11 +12,11 @@ pub returns-in-Ok : goal.returns-in-Ok
 returns-in-Ok g c =
     let e = c.in-Ok.ensures in
     let t = c.args.txn.now in
-    let i = commits_idle (beginning_of c.args.hall.now) c.args.keep t c.commit.new.self c.args.pass.now c.commit.new.pass c.in-Ok.done.stamp e.pass.1 e.commits.0 c.requires.going.job in
+    let i = commits_idle (beginning_of c.args.hall.now) c.args.keep t c.commit.new.self c.args.pass.now c.commit.new.pass c.in-Ok.done.stamp e.pass.1 e.commits.commits c.requires.going.job in
     record {
       idle = (record { idle = (e.pass.0, i.0, i.1) }, e.pass.1);
-      free = record { lane = t.draft.lane; turn = t.draft.turn; is_blank = e.commits.0.blank_now.0; none = e.commits.0.blank_now.1 };
-      adds = commit_adds c.args.pass.now c.commit.new.pass (beginning_of c.args.hall.now) c.args.keep t c.commit.new.self c.in-Ok.done e.commits.0 e.commits.1;
+      free = record { lane = t.draft.lane; turn = t.draft.turn; is_blank = e.commits.commits.blank_now.0; none = e.commits.commits.blank_now.1 };
+      adds = commit_adds c.args.pass.now c.commit.new.pass (beginning_of c.args.hall.now) c.args.keep t c.commit.new.self c.in-Ok.done e.commits.commits e.commits.entry;
     }
 
 pub give_up-requires-in-Err-clause-going : goal.give_up-requires-in-Err-clause-going

@@ -3,7 +3,7 @@ use Rattle.std.proofs.Common.{Ok, Err, arith, sym, ◌∙◌, subst}
 use Rattle.hall_rooms.specs.Rooms.{beginning_of}
 use Rattle.hall_rooms.specs.Merging.{MergesThroughOr}
 use Rattle.hall_rooms.specs.Turning.{NotBegan}
-use Rattle.hall_rooms.proofs.Made.{clears_unread, goes_merged, in_vain, merge_damage, merge_fails, merged_clears}
+use Rattle.hall_rooms.proofs.Made.{clears_unread, free_is, goes_merged, in_vain, merge_damage, merge_fails, merged_clears, vain}
 use Rattle.hall_rooms.proofs.Posted.{board_long, some_empty}
 use Rattle.hall_rooms.proofs.Renewing.{go_none, part_on}
 use Rattle.hall_rooms.proofs.making.merge_cleared.Goals as goal
@@ -34,13 +34,18 @@ returns-then-not-merged-clause-publishes g c = c.requires.publishes ∙ sym c.in
 
 pub returns-then-not-merged-clause-merges : goal.returns-then-not-merged-clause-merges
 returns-then-not-merged-clause-merges g c =
-    in_vain (beginning_of c.args.hall.now).seats c.args.from c.args.had_retired c.args.room.now c.merge_through.new.room c.requires.cleared
-    (subst (λ b. MergesThroughOr c.args.from c.args.room.now c.merge_through.new.room (Ok b)) c.if-not-merged.true c.in-Ok.ensures) c.counts-whole.ensures.whole
+    let s = c.space_of.ensures in
+    in_vain (beginning_of c.args.hall.now).seats c.args.from c.args.had_retired c.args.room.now c.merge_through.new.room c.space_of.result c.counts-left.result.free
+    (free_is c.merge_through.new.room.room c.counts-left.result c.counts-left.ensures.counts) s.made s.stuck s.enough
+    (vain c.args.from c.args.room.now c.merge_through.new.room c.requires.cleared (subst (λ b. MergesThroughOr c.args.from c.args.room.now c.merge_through.new.room (Ok b)) c.if-not-merged.true c.in-Ok.ensures) c.counts-left.ensures.whole)
 
 pub clear_merged-requires-clause-part : goal.clear_merged-requires-clause-part
 clear_merged-requires-clause-part g c κs within =
     part_on c.args.hall.now c.merge_through.new.room c.args.pass.now c.args.pass.now c.args.others.now c.args.others.now (go_none c.args.hall.now c.args.room.now c.args.pass.now c.args.others.now c.requires.part)
     (goes_merged (beginning_of c.args.hall.now) c.args.from c.args.room.now c.merge_through.new.room c.args.pass.now c.requires.part.turn c.requires.cleared.no_job (Ok c.in-Ok.merged) c.in-Ok.ensures)
+
+pub clear_merged-requires-clause-none_waits : goal.clear_merged-requires-clause-none_waits
+clear_merged-requires-clause-none_waits g c κs within = c.in-Ok.ensures.leaves.epochs.1 ∙ c.requires.cleared.none_waits
 
 pub clear_merged-requires-clause-no_job : goal.clear_merged-requires-clause-no_job
 clear_merged-requires-clause-no_job g c κs within = c.in-Ok.ensures.leaves.no_job

@@ -2,30 +2,30 @@
 use Rattle.std.proofs.Common.{arith}
 use Rattle.hall_rooms.specs.Rooms.{beginning_of}
 use Rattle.fine_model.proofs.Histories.Goings.{job_on}
-use Rattle.hall_rooms.proofs.Clearing.{looks_job, round_goes, show_fails}
+use Rattle.hall_rooms.proofs.Clearing.{looks_job, post_stops, round_goes}
 use Rattle.hall_rooms.proofs.Renewing.{go_stays, go_then, part_on}
 use Rattle.hall_rooms.proofs.making.renew_and_erase.Goals as goal
 
 pub refresh_all-requires-clause-part : goal.refresh_all-requires-clause-part
-refresh_all-requires-clause-part g c κs within = part_on c.args.hall.now c.show.new.room c.args.pass.now c.show.new.pass c.args.others.now c.args.others.now (go_stays c.args.hall.now c.args.room.now c.args.pass.now c.show.new.pass c.args.others.now c.requires.part c.show.ensures.stays) c.in-Ok.ensures.shows.0
+refresh_all-requires-clause-part g c κs within = part_on c.args.hall.now c.post_and_publish.new.room c.args.pass.now c.post_and_publish.new.pass c.args.others.now c.args.others.now (go_stays c.args.hall.now c.args.room.now c.args.pass.now c.post_and_publish.new.pass c.args.others.now c.requires.part c.post_and_publish.ensures.stays) c.in-Ok.ensures.posts.0
 
 pub returns-in-Ok-clause-goes : goal.returns-in-Ok-clause-goes
 returns-in-Ok-clause-goes g c =
-    go_then c.args.hall.now c.args.pass.now c.show.new.pass c.refresh_all.new.pass c.args.others.now c.args.others.now c.refresh_all.new.others
-    (go_stays c.args.hall.now c.args.room.now c.args.pass.now c.show.new.pass c.args.others.now c.requires.part c.show.ensures.stays) c.refresh_all.ensures.goes
+    go_then c.args.hall.now c.args.pass.now c.post_and_publish.new.pass c.refresh_all.new.pass c.args.others.now c.args.others.now c.refresh_all.new.others
+    (go_stays c.args.hall.now c.args.room.now c.args.pass.now c.post_and_publish.new.pass c.args.others.now c.requires.part c.post_and_publish.ensures.stays) c.refresh_all.ensures.goes
 
 pub returns-in-Ok-clause-job : goal.returns-in-Ok-clause-job
 returns-in-Ok-clause-job g c =
-    job_on c.args.room.now.room c.show.new.room.room c.erase_and_look.new.room.room c.show.ensures.job (looks_job c.show.new.room c.erase_and_look.new.room c.erase_and_look.result c.erase_and_look.ensures)
+    job_on c.args.room.now.room c.post_and_publish.new.room.room c.erase_and_look.new.room.room c.post_and_publish.ensures.job (looks_job c.post_and_publish.new.room c.erase_and_look.new.room c.erase_and_look.result c.erase_and_look.ensures)
 
 pub returns-in-Ok-clause-round : goal.returns-in-Ok-clause-round
 returns-in-Ok-clause-round g c =
     let x = beginning_of c.args.hall.now in
-    round_goes x c.args.room.now c.show.new.room c.erase_and_look.new.room c.refresh_all.new.others c.refresh_all.new.pass c.in-Ok.ensures.shows.3 c.in-Ok.ensures.shows.4 c.refresh_all.ensures.turn (let a = c.in-Ok.ensures.shows.1 in let b = c.in-Ok.ensures.shows.2 in let least = c.refresh_all.ensures.goes.goes.no_earlier in let most = c.refresh_all.ensures.reaches in omega (arith, a, b, least, most)) c.refresh_all.ensures.ahead.0 c.refresh_all.ensures.ahead.1
+    round_goes x c.args.room.now c.post_and_publish.new.room c.erase_and_look.new.room c.refresh_all.new.others c.refresh_all.new.pass c.in-Ok.ensures.posts.1 c.in-Ok.ensures.posts.4 c.refresh_all.ensures.turn (let a = c.in-Ok.ensures.posts.2 in let b = c.in-Ok.ensures.posts.3 in let least = c.refresh_all.ensures.goes.goes.no_earlier in let most = c.refresh_all.ensures.reaches in omega (arith, a, b, least, most)) c.refresh_all.ensures.ahead.0 c.refresh_all.ensures.ahead.1
     c.erase_and_look.result c.erase_and_look.ensures
 
 pub returns-in-Err-clause-goes : goal.returns-in-Err-clause-goes
-returns-in-Err-clause-goes g c = go_stays c.args.hall.now c.args.room.now c.args.pass.now c.show.new.pass c.args.others.now c.requires.part c.show.ensures.stays
+returns-in-Err-clause-goes g c = go_stays c.args.hall.now c.args.room.now c.args.pass.now c.post_and_publish.new.pass c.args.others.now c.requires.part c.post_and_publish.ensures.stays
 
 pub returns-in-Err-clause-round : goal.returns-in-Err-clause-round
-returns-in-Err-clause-round g c = show_fails (beginning_of c.args.hall.now) c.args.room.now c.args.room.now c.show.new.room c.args.others.now c.show.new.pass c.in-Err.fault c.in-Err.ensures.shows
+returns-in-Err-clause-round g c = post_stops (beginning_of c.args.hall.now) c.args.room.now c.args.room.now c.post_and_publish.new.room c.args.others.now c.post_and_publish.new.pass c.in-Err.fault c.in-Err.ensures.posts

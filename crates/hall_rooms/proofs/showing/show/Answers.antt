@@ -1,14 +1,12 @@
 -- What waits is sealed, posted to all seats, and published.
-use denote.Param.Send.{sendable}
-use Rattle.std.proofs.Common.{◌≡◌, ℕ, Err, arith, sym, subst, ◌∙◌}
+use Rattle.std.proofs.Common.{◌≡◌, ℕ, Err, sym, subst}
 use Rattle.std.specs.Prelude.{Result}
 use Rattle.std.proofs.lemmas.Result.{err_from_is_err_and}
 use Rattle.epoch_room.specs.declared.answers.RoomFault.{RoomFault}
+use Rattle.fine_model.proofs.Histories.Goings.{job_on}
 use Rattle.hall_rooms.specs.Rooms.{beginning_of}
 use Rattle.hall_rooms.specs.Steps.{ShowsOr}
-use Rattle.hall_rooms.proofs.Crossing.{bucket_send, in_hall_send}
-use Rattle.hall_rooms.proofs.Shown.{post_fails, seal_fails, sealed_clean, shown, stays_published}
-use Rattle.hall_rooms.proofs.Turned.{counted, stays_more}
+use Rattle.hall_rooms.proofs.Shown.{seal_fails, sealed_clean, shown}
 use Rattle.hall_rooms.proofs.showing.show.Goals as goal
 
 pub returns-in_err-seal_waiting-clause-shows : goal.returns-in_err-seal_waiting-clause-shows
@@ -18,49 +16,12 @@ returns-in_err-seal_waiting-clause-shows g c =
     let e : ◌≡◌ {A = Result ℕ RoomFault} c.from_residual.result (Err fault) = cc (p.1, p.2) in
     subst (ShowsOr (beginning_of c.args.hall.now) c.args.room.now c.seal_waiting.new.room c.args.pass.now) (sym e) (seal_fails (beginning_of c.args.hall.now) c.args.pass.now c.args.room.now c.seal_waiting.new.room fault c.requires.turn c.in_err-seal_waiting.ensures)
 
-pub returns-in_err-post_to_each-clause-shows : goal.returns-in_err-post_to_each-clause-shows
-returns-in_err-post_to_each-clause-shows g c =
-    let fault = c.in_err-post_to_each.field-0.0 in
-    let p = err_from_is_err_and c.from_residual-in_err-post_to_each.result c.from_residual-in_err-post_to_each.ensures.1 in
-    let e : ◌≡◌ {A = Result ℕ RoomFault} c.from_residual-in_err-post_to_each.result (Err fault) = cc (p.1, p.2) in
-    subst (ShowsOr (beginning_of c.args.hall.now) c.args.room.now c.post_to_each.new.room c.post_to_each.new.pass) (sym e)
-    (post_fails (beginning_of c.args.hall.now) c.args.room.now c.seal_waiting.new.room c.post_to_each.new.room c.post_to_each.new.pass fault c.in_ok-seal_waiting.ensures c.in_err-post_to_each.ensures.posts)
+pub post_and_publish-requires-clause-turn : goal.post_and_publish-requires-clause-turn
+post_and_publish-requires-clause-turn g c κs within = sealed_clean (beginning_of c.args.hall.now) c.args.pass.now c.args.room.now c.seal_waiting.new.room c.requires.turn c.in_ok-seal_waiting.ensures
 
-pub post_to_each-requires-clause-turn : goal.post_to_each-requires-clause-turn
-post_to_each-requires-clause-turn g c κs within = sealed_clean (beginning_of c.args.hall.now) c.args.pass.now c.args.room.now c.seal_waiting.new.room c.requires.turn c.in_ok-seal_waiting.ensures
-
-pub publish-requires-send-R : goal.publish-requires-send-R
-publish-requires-send-R g c κs within = let d = c.type_bounds.send-D in search (sendable, in_hall_send) depth 20
-
-pub publish-requires-send-B : goal.publish-requires-send-B
-publish-requires-send-B g c κs within = search (sendable, bucket_send) depth 20
-
-pub publish-requires-clause-later : goal.publish-requires-clause-later
-publish-requires-clause-later g c κs within =
-    let b = c.in_ok-post_to_each.ensures.posts.0 in
-    let low = b.turn.is_turn.top in
-    let top = b.turn.may.top in
-    let is = (counted c.post_to_each.new.room.room c.counts-epoch.result c.counts-epoch.ensures.counts).1 in
-    omega (arith, low, top, is)
-
-pub publish-requires-clause-posted : goal.publish-requires-clause-posted
-publish-requires-clause-posted g c κs within =
-    let b = c.in_ok-post_to_each.ensures.posts.0 in
-    let is = (counted c.post_to_each.new.room.room c.counts-epoch.result c.counts-epoch.ensures.counts).1 in
-    (b.note, b.turn.is_turn, λ i lt. let up = b.upto i lt in omega (arith, up, is))
-
-pub returns-clause-stays : goal.returns-clause-stays
-returns-clause-stays g c =
-    let b = c.in_ok-post_to_each.ensures.posts.0 in
-    let low = b.turn.is_turn.top in
-    let top = b.turn.may.top in
-    let is = (counted c.post_to_each.new.room.room c.counts-epoch.result c.counts-epoch.ensures.counts).1 in
-    record {
-      pass = (c.publish.ensures.pass.0, c.publish.ensures.pass.1 ∙ c.post_to_each.ensures.stays.pass.1);
-      stays = stays_more c.args.pass.now c.post_to_each.new.pass c.publish.new.pass c.post_to_each.ensures.stays.stays (stays_published c.counts-epoch.result.sealed c.post_to_each.new.pass c.publish.new.pass (omega (arith, low, top, is)) c.publish.ensures.publishes);
-    }
+pub returns-clause-job : goal.returns-clause-job
+returns-clause-job g c = job_on c.args.room.now.room c.seal_waiting.new.room.room c.post_and_publish.new.room.room c.in_ok-seal_waiting.ensures.0.job c.post_and_publish.ensures.job
 
 pub returns-clause-shows : goal.returns-clause-shows
 returns-clause-shows g c =
-    shown (beginning_of c.args.hall.now) c.post_to_each.new.room c.post_to_each.new.pass c.publish.new.pass _ c.publish.ensures.pass.0 c.publish.ensures.pass.1 c.counts-epoch.ensures.whole c.counts-epoch.result.sealed c.publish.ensures.publishes c.args.room.now
-    c.seal_waiting.new.room c.in_ok-seal_waiting.ensures c.in_ok-post_to_each.ensures.posts (counted c.post_to_each.new.room.room c.counts-epoch.result c.counts-epoch.ensures.counts).1
+    shown (beginning_of c.args.hall.now) c.args.room.now c.seal_waiting.new.room c.post_and_publish.new.room c.post_and_publish.new.pass c.in_ok-seal_waiting.ensures c.post_and_publish.result c.post_and_publish.ensures.posts

@@ -104,11 +104,10 @@ returns-in-None-clause-commits g c =
     let e = c.release_all.ensures in
     let stamped = ap (λ (s : Stamp). s.epoch) c.append-stamp.ensures.stamp in
     let given = subst (λ (e : Entry). GivesRoom c.append-stamp.new.self.room (Some e) (c.take_room-room.result.room.sealed + 1) k.turn p c.give_room.new.pass) c.take_entry-entry.ensures.entry
-    (subst (λ n. GivesRoom c.append-stamp.new.self.room (Some c.take_entry-entry.result) n k.turn p c.give_room.new.pass) stamped (c.give_room.ensures.gives k.turn k.is_turn)) in (
-      committed (beginning_of c.args.hall.now) c.args.self.now c.args.pass.now c.published-published.new.pass c.take_room-room.new.pass c.published-published.ensures.pass.1 c.take_room-room.ensures.pass.1 c.published-published.ensures.reads c.requires.pass.lawful c.published-published.ensures.pass.0.lawful c.take_room-room.ensures.pass.0.lawful c.requires.open.0 c.requires.free c.take_room-room.result c.take_room-room.ensures.takes c.take_room-room.ensures.room c.requires.open.1 c.append-stamp.new.self (c.append-stamp.ensures.room ∙ ap (appended c.take_room-room.result) c.log.ensures) (subst (StandsForMore c.take_room-room.result c.append-stamp.new.self) c.log.ensures c.append-stamp.ensures.stands) c.append-stamp.ensures.becomes c.append-stamp.ensures.job c.give_room.new.pass c.give_room.ensures.pass.1 given c.args.keep (ap (fit_of c.take_room-room.result.room) (sym c.cost.ensures) ∙ (sym c.fit.ensures ∙ c.in-None.ensures)) _ c.release_all.new.pass c.settle_all.new.locks c.append-stamp.result e.pass.1
-          c.append-stamp.ensures.stamp c.take_entry-entry.ensures.left e.pass.2 e.none e.releases c.published-published.result c.published-published.ensures.number (gives_back _ _ c.args.self.now _ c.settle_all.new.locks c.settle_all.ensures e.given_back),
-      c.take_entry-entry.ensures.entry,
-    )
+    (subst (λ n. GivesRoom c.append-stamp.new.self.room (Some c.take_entry-entry.result) n k.turn p c.give_room.new.pass) stamped (c.give_room.ensures.gives k.turn k.is_turn)) in
+    committed (beginning_of c.args.hall.now) c.args.self.now c.args.pass.now c.published-published.new.pass c.take_room-room.new.pass c.published-published.ensures.pass.1 c.take_room-room.ensures.pass.1 c.published-published.ensures.reads c.requires.pass.lawful c.published-published.ensures.pass.0.lawful c.take_room-room.ensures.pass.0.lawful c.requires.open.0 c.requires.free c.take_room-room.result c.take_room-room.ensures.takes c.take_room-room.ensures.room c.requires.open.1 c.append-stamp.new.self (c.append-stamp.ensures.room ∙ ap (appended c.take_room-room.result) c.log.ensures) (subst (StandsForMore c.take_room-room.result c.append-stamp.new.self) c.log.ensures c.append-stamp.ensures.stands) c.append-stamp.ensures.becomes c.append-stamp.ensures.job c.give_room.new.pass c.give_room.ensures.pass.1 given c.args.keep (ap (fit_of c.take_room-room.result.room) (sym c.cost.ensures) ∙ (sym c.fit.ensures ∙ c.in-None.ensures)) _ c.release_all.new.pass c.settle_all.new.locks (record { stamp = c.append-stamp.result; entry = c.take_entry-entry.result; waiting = c.waiting-waiting.result }) e.pass.1
+    c.append-stamp.ensures.stamp c.take_entry-entry.ensures.left e.pass.2 e.none e.releases c.published-published.result c.published-published.ensures.number (gives_back _ _ c.args.self.now _ c.settle_all.new.locks c.settle_all.ensures e.given_back)
+    c.take_entry-entry.ensures.entry c.waiting-waiting.ensures
 
 pub returns-in-Some : goal.returns-in-Some
 returns-in-Some g c =

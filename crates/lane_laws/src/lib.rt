@@ -1,0 +1,6 @@
+//! Laws between the hall of rooms and the runs of scripts, each the contract of a function that does nothing.
+#![tactic(auto)]
+
+mod laws;
+
+pub use laws::no_hall_law;

@@ -5,7 +5,7 @@ use Rattle.hall_accounts.proofs.Gone.{tries_goes}
 use Rattle.hall_accounts.proofs.tables.try_alone_now.Goals as goal
 
 pub try_room-requires-clause-others : goal.try_room-requires-clause-others
-try_room-requires-clause-others g c κs within = no_case c.as_mut_slice-others.result.now (IsRoomPass c.args.hall.now) (c.as_mut_slice-others.ensures.value ∙ c.new-none.ensures)
+try_room-requires-clause-others g c κs within = no_case c.as_mut_slice-others.result.now (IsRoomPass c.args.hall.now) (c.as_mut_slice-others.ensures.value ∙ c.new-none.ensures.items)
 
 pub returns : goal.returns
 returns g c =

@@ -1,2 +1,3 @@
-pub mod TestSteps
+pub mod FileDisks
 pub mod NewLog
+pub mod TestSteps

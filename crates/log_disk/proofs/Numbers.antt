@@ -1,10 +1,11 @@
 -- The open eyes of a disk, and their numbers.
-use Rattle.std.proofs.Common.{◌≡◌, ℕ, ◌+◌, ◌<◌, Bool, true, false, cond, List, [], ◌∷◌, ◌++◌, map, refl, sym, ap, subst, ◌∙◌, arith}
-use Rattle.std.specs.Prelude.{Contains, filter, not, ◌==◌, nat_eq}
+use Rattle.std.proofs.Common.{◌≡◌, ℕ, ◌+◌, ◌<◌, ◌≤◌, zero, suc, Bool, true, false, cond, List, [], ◌∷◌, ◌++◌, length, get_or, map, refl, sym, ap, subst, ◌∙◌, arith}
+use Rattle.std.specs.Prelude.{Any, Contains, filter, not, ◌==◌, nat_eq}
 use Rattle.std.specs.List.{range_with_len, AllByRecursion, IsDistinct}
 use Rattle.std.proofs.lemmas.List.FromFn.{map-range_with_len_more, length-range_with_len, get_or-range_with_len}
 use Rattle.std.proofs.lemmas.List.{map-id, map_push}
-use Rattle.std.proofs.lemmas.Bool.{ne_eqb}
+use Rattle.std.proofs.lemmas.List.Sums.{length-filter, count_by-le-length}
+use Rattle.std.proofs.lemmas.Bool.{eq-eqb, ne_eqb}
 use Rattle.std.proofs.lemmas.Map.Keys.{IsDistinct-cons, IsDistinct-head, IsDistinct-tail}
 use Rattle.log_disk.specs.Disk.{OpenEye, AreNumbered}
 use Rattle.log_disk.proofs.Lists.{contains_left, contains_last, all_push, all_weaker, all_filter}
@@ -89,3 +90,22 @@ numbered_opens eyes given eye new are = record {
 
 pub numbered_closes : (eyes : List OpenEye) (given : List ℕ) (p : OpenEye → Bool) → AreNumbered eyes given → AreNumbered (filter p eyes) given
 numbered_closes eyes given p are = record { apart = distinct_filter p eyes are.apart; given = all_filter (λ (e : OpenEye). Contains given e.number) p eyes are.given }
+
+-- one eye fewer is open, at least, once that of a number is closed
+pub fewer_open : (number : ℕ) (eyes : List OpenEye) → Any (λ e. e.number ≡ number) eyes → length (filter (λ e. not (e.number == number)) eyes) < length eyes
+fewer_open number eyes there = at eyes there.0 there.1 there.2 (ap (λ (e : OpenEye). e.number) there.3 ∙ there.4)
+  where
+    kept : List OpenEye → List OpenEye
+    kept es = filter (λ e. not (e.number == number)) es
+
+    no_more : (es : List OpenEye) → length (kept es) ≤ length es
+    no_more es = omega (arith, length-filter (λ (e : OpenEye). not (e.number == number)) es, count_by-le-length (λ (e : OpenEye). not (e.number == number)) es)
+
+    either : (b : Bool) (e : OpenEye) (es : List OpenEye) (len : ℕ) → length es < len → length (cond b (e ∷ es) es) < len + 1
+    either true e es len less = omega (arith, less)
+    either false e es len less = omega (arith, less)
+
+    at : (es : List OpenEye) (k : ℕ) (d : OpenEye) → k < length es → (get_or es k d).number ≡ number → length (kept es) < length es
+    at [] k d lt same = absurd (omega (arith, lt))
+    at (e ∷ es) zero d lt same = rw (ap (λ b. not b) (eq-eqb e.number number same)) (omega (arith, no_more es))
+    at (e ∷ es) (suc k) d lt same = omega (arith, either (not (e.number == number)) e (kept es) (length es) (at es k d (omega (arith, lt)) same))

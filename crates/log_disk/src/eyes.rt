@@ -1,7 +1,7 @@
 //! The open eyes of a disk.
 
 ghost use Rattle.std.specs.Bool.{OnFalse};
-ghost use Rattle.std.specs.Prelude.{length, true, ◌≡◌, ◌+◌, ◌<◌, ◌^◌, ◌++◌, ◌∷◌, [], Contains, OnOk, filter, not, ◌==◌, vec_len, vec_capacity};
+ghost use Rattle.std.specs.Prelude.{length, true, ◌≡◌, ◌+◌, ◌<◌, ◌^◌, ◌++◌, ◌∷◌, [], Any, Contains, OnOk, filter, not, ◌==◌, vec_len, vec_capacity};
 ghost use Rattle.log_disk.specs.Disk.{AreNumbered, last_count};
 ghost use Rattle.log_disk.specs.Eyes.{eyes_in, numbers_to};
 
@@ -43,6 +43,15 @@ impl OpenEyes {
         self.given == u64::MAX
     }
 
+    /// How many are open, where there is room for one more.
+    pub fn count(&self) -> usize
+        requires room { vec_len self.now.open < vec_capacity self.now.open }
+        ensures count { result ≡ length (eyes_in self.now) }
+        ensures fits { result + 1 < 2 ^ 64 }
+    {
+        self.open.len()
+    }
+
     /// Makes room for one more.
     pub fn reserve(&mut self) -> Result<(), AllocError>
         ensures eyes { eyes_in self.new ≡ eyes_in self.old }
@@ -77,6 +86,7 @@ impl OpenEyes {
         requires numbered { AreNumbered (eyes_in self.old) (numbers_to self.old.given) }
         ensures given { self.new.given ≡ self.old.given }
         ensures eyes { eyes_in self.new ≡ filter (λ eye. not (eye.number == number)) (eyes_in self.old) }
+        ensures fewer { Any (λ eye. eye.number ≡ number) (eyes_in self.old) → length (eyes_in self.new) < length (eyes_in self.old) }
         ensures numbered { AreNumbered (eyes_in self.new) (numbers_to self.new.given) }
     {
         self.open.retain(|eye| eye.number != number);

@@ -2,7 +2,7 @@
 //!
 //! Contracts name the path by which each file was opened, and the place and length of what it is asked for.
 
-ghost use Rattle.std.specs.Prelude.{◌≡◌, ◌≢◌, ◌⊎◌, ◌*◌, ◌<◌, ◌≤◌, ◌+◌, ◌^◌, true, false, All, Any, Contains, None, Some, Err, IfSome, IfOk, IfErr, OnOk, OnErr, IsErr, IsErrOf, is_err, if◌then◌else◌, length, string_bytes};
+ghost use Rattle.std.specs.Prelude.{◌≡◌, ◌≢◌, ◌⊎◌, ◌*◌, ◌<◌, ◌≤◌, ◌+◌, ◌^◌, ◌++◌, ◌∷◌, [], true, false, All, Any, Contains, None, Some, Err, IfSome, IfOk, IfErr, OnOk, OnErr, IsErr, IsErrOf, is_err, if◌then◌else◌, length, string_bytes};
 ghost use Rattle.log_disk.specs.declared.file.MakeFault.TheVariants as fault;
 ghost use Rattle.log_disk.specs.declared.file.handle.FileAsk.TheVariants as ask;
 ghost use Rattle.log_disk.specs.MakeFault.{IsWhy};
@@ -19,9 +19,11 @@ use std::snapshot::Snapshot;
 use thiserror::Error;
 
 mod handle;
+mod kept;
 
 use handle::Handle;
 pub use handle::{FileAsk, FileCall, FileNotes};
+use kept::{EyeFile, KeptFiles};
 
 /// Why no disk was made of a file. The notes are there for contracts and take no memory.
 #[derive(Drop, Error)]
@@ -62,7 +64,8 @@ impl From<AllocError> for MakeFault {
 /// A disk in one file, with region `r` from byte `r * region_len` on. It tells no bytes, and its counts rise at each call
 /// on the file that fails.
 ///
-/// Its file is locked as long as it lives. It keeps the path, by which each eye opens the file once more. No call changes that.
+/// Its file is locked as long as it lives. It keeps the path, by which the file is opened once more for an eye. No call changes
+/// that. A file that an eye had is kept for a later eye, and is closed with the disk.
 #[derive(Drop)]
 pub struct FileDisk<R: Files<File = File> + Clone + Drop + Send> {
     alloc: Global,
@@ -73,13 +76,14 @@ pub struct FileDisk<R: Files<File = File> + Clone + Drop + Send> {
     region_len: u64,
     unsynced: Vec<Snapshot<u32>>,
     eyes: OpenEyes,
+    kept: KeptFiles,
     faults: Faults,
 }
 
 impl<R: Files<File = File> + Clone + Drop + Send> Model for FileDisk<R> {
-    ghost use Rattle.std.specs.Prelude.{ℕ, ◌≡◌, ◌*◌, ◌<◌, ◌^◌, true, map, None, string_bytes};
+    ghost use Rattle.std.specs.Prelude.{ℕ, ◌≡◌, ◌*◌, ◌<◌, ◌^◌, true, map, length, All, None, string_bytes};
     ghost use Rattle.log_disk.specs.Disk.{AreNumbered};
-    ghost use Rattle.log_disk.specs.FileDisk.{DiskAtPath, file_of};
+    ghost use Rattle.log_disk.specs.FileDisk.{DiskAtPath, HasPlaces, IsAtPath, file_of, kept_in};
 
     ghost Value = { DiskAtPath };
 
@@ -88,6 +92,7 @@ impl<R: Files<File = File> + Clone + Drop + Send> Model for FileDisk<R> {
     ghost view = { λ d. record {
       path = string_bytes d.file.notes.path.value;
       file = file_of d.file.notes;
+      kept = kept_in d.kept;
       disk = record {
         regions = d.regions;
         region_len = d.region_len;
@@ -100,7 +105,7 @@ impl<R: Files<File = File> + Clone + Drop + Send> Model for FileDisk<R> {
       };
     } };
 
-    ghost invariant = { λ d. (d.regions * d.region_len < 2 ^ 63) × AreNumbered (eyes_in d.eyes) (numbers_to d.eyes.given) × (d.file.notes.locked.value ≡ true) × (d.file.notes.path.value ≡ d.path) };
+    ghost invariant = { λ d. (d.regions * d.region_len < 2 ^ 63) × AreNumbered (eyes_in d.eyes) (numbers_to d.eyes.given) × (d.file.notes.locked.value ≡ true) × (d.file.notes.path.value ≡ d.path) × All (IsAtPath (string_bytes d.path)) d.kept.files.items × HasPlaces (length (eyes_in d.eyes)) d.kept };
 }
 
 impl<R: Files<File = File> + Clone + Drop + Send> FileDisk<R> {
@@ -124,6 +129,7 @@ impl<R: Files<File = File> + Clone + Drop + Send> FileDisk<R> {
         ensures locked { IfOk result (λ made. made.file.locked ≡ true) }
         ensures whole { IfOk result (λ made. made.file.len ≡ Some (regions * region_len)) }
         ensures synced { IfOk result (λ made. made.file.last ≡ record { ask = ask.Sync; failed = false }) }
+        ensures none_kept { IfOk result (λ made. made.kept ≡ []) }
         ensures found { IfOk result (λ made. made.file.found ≡ Some (if made.file.changed then 0 else regions * region_len)) }
         ensures fault { IfErr result (IsWhy path.now (regions * region_len)) }
     {
@@ -143,6 +149,7 @@ impl<R: Files<File = File> + Clone + Drop + Send> FileDisk<R> {
             region_len,
             unsynced: Vec::new(alloc),
             eyes: OpenEyes::none(alloc),
+            kept: KeptFiles::none(alloc),
             faults: Faults::none(),
         })
     }
@@ -235,6 +242,7 @@ impl<R: Files<File = File> + Clone + Drop + Send> LogDisk for FileDisk<R> {
         ensures reads { Reads region at out.new (IsErr result) self.old.disk self.new.disk }
         ensures asked { self.new.file.last ≡ record { ask = ask.Read (region * self.old.disk.region_len + at) (length out.old); failed = is_err result } }
         ensures same_path { self.new.path ≡ self.old.path }
+        ensures same_kept { self.new.kept ≡ self.old.kept }
     {
         let done = self.file.read(place_of(self.region_len, region, at), out);
         self.faults.answer(done)
@@ -248,6 +256,7 @@ impl<R: Files<File = File> + Clone + Drop + Send> LogDisk for FileDisk<R> {
         ensures no_memory { IsErrOf result DiskRefusal.NoMemory → self.new.disk ≡ self.old.disk }
         ensures asked { result ≢ Err DiskRefusal.NoMemory → self.new.file.last ≡ record { ask = ask.Write (region * self.old.disk.region_len + at) (length bytes.now); failed = is_err result } }
         ensures same_path { self.new.path ≡ self.old.path }
+        ensures same_kept { self.new.kept ≡ self.old.kept }
     {
         self.unsynced.push(Snapshot::of(&region))?;
         let done = self
@@ -265,6 +274,7 @@ impl<R: Files<File = File> + Clone + Drop + Send> LogDisk for FileDisk<R> {
         ensures err { OnErr result (OnlyFails self.old.disk self.new.disk) }
         ensures asked { self.new.file.last ≡ record { ask = ask.Sync; failed = is_err result } }
         ensures same_path { self.new.path ≡ self.old.path }
+        ensures same_kept { self.new.kept ≡ self.old.kept }
     {
         let done = self.file.sync();
         if self.faults.answer(done).is_err() {
@@ -274,7 +284,9 @@ impl<R: Files<File = File> + Clone + Drop + Send> LogDisk for FileDisk<R> {
         Ok(())
     }
 
-    /// The eye's file is opened by the disk's own path. `Failed` says that this failed, or that all numbers are spent.
+    /// The eye gets the file that came back last from an eye, and no file is asked for anything. Where none is left of these, the
+    /// eye's file is opened by the disk's own path. `Failed` says that this failed, or that all numbers are spent. An eye that is
+    /// refused leaves all files that came back.
     fn eye(&mut self, regions: &[u32]) -> Result<FileEye, DiskRefusal>
         requires there { All (λ r. r < self.old.disk.regions) regions.now }
         requires synced { All (λ r. Contains self.old.disk.unsynced r → ⊥) regions.now }
@@ -284,6 +296,12 @@ impl<R: Files<File = File> + Clone + Drop + Send> LogDisk for FileDisk<R> {
         ensures cause { IsErrOf result DiskRefusal.Failed → (length self.old.disk.given ≡ last_count) ⊎ (self.new.file.last ≡ record { ask = ask.Open; failed = true }) }
         ensures at_path { IfOk result (λ opened. opened.path ≡ self.old.path) }
         ensures same_path { self.new.path ≡ self.old.path }
+        ensures opens { self.old.kept ≡ [] → IfOk result (λ opened. (opened.file.last ≡ record { ask = ask.Open; failed = false }) × (self.new.file.last ≡ record { ask = ask.Open; failed = false })) }
+        ensures takes { self.old.kept ≢ [] → IfOk result (λ opened. self.old.kept ≡ self.new.kept ++ opened.file ∷ []) }
+        ensures not_asked { self.old.kept ≢ [] → self.new.file ≡ self.old.file }
+        ensures spent { self.old.kept ≢ [] → IsErrOf result DiskRefusal.Failed → length self.old.disk.given ≡ last_count }
+        ensures none_left { self.old.kept ≡ [] → self.new.kept ≡ [] }
+        ensures keeps { OnErr result (self.new.kept ≡ self.old.kept) }
     {
         if self.eyes.are_spent() {
             self.faults.count();
@@ -291,7 +309,11 @@ impl<R: Files<File = File> + Clone + Drop + Send> LogDisk for FileDisk<R> {
         }
         self.eyes.reserve()?;
         let named = Vec::from_slice(self.alloc, regions)?;
-        let Ok(file) = self.file.open_again(&self.rt, &self.path) else {
+        let out = self.eyes.count();
+        let taken = self
+            .kept
+            .take_or_open(&mut self.file, &self.rt, &self.path, out)?;
+        let Some(file) = taken else {
             self.faults.count();
             return Err(DiskRefusal::Failed);
         };
@@ -307,23 +329,34 @@ impl<R: Files<File = File> + Clone + Drop + Send> LogDisk for FileDisk<R> {
         })
     }
 
+    /// The eye's file is kept for a later eye, and no file is asked for anything. An eye of another disk may have the number of an
+    /// open one; its file is closed where it was opened by another path than the disk's.
     fn close(&mut self, eye: FileEye)
         requires { Any (λ e. e.number ≡ eye.eye.number) self.old.disk.eyes }
         ensures closes { Closes eye.eye self.old.disk self.new.disk }
         ensures not_asked { self.new.file ≡ self.old.file }
         ensures same_path { self.new.path ≡ self.old.path }
+        ensures keeps { eye.path ≡ self.old.path → self.new.kept ≡ self.old.kept ++ eye.file ∷ [] }
+        ensures other_path { eye.path ≢ self.old.path → self.new.kept ≡ self.old.kept }
     {
-        let number = eye.number;
-        self.faults.add(eye.faults);
+        let FileEye {
+            number,
+            file,
+            faults,
+            ..
+        } = eye;
+        self.faults.add(faults);
         self.eyes.close(number);
+        self.kept.keep(&self.path, file);
     }
 }
 
-/// An eye on a disk in a file, which was opened for it. It tells no bytes, and takes no lock.
+/// An eye on a disk in a file. It has its file alone, which was opened for it or came back from an eye before. It tells no bytes,
+/// and takes no lock.
 #[derive(Drop)]
 pub struct FileEye {
     number: u64,
-    file: Handle,
+    file: EyeFile,
     disk_regions: u32,
     region_len: u64,
     regions: Snapshot<Vec<u32>>,
@@ -333,13 +366,13 @@ pub struct FileEye {
 
 impl Model for FileEye {
     ghost use Rattle.std.specs.Prelude.{ℕ, ◌*◌, ◌<◌, ◌^◌, All, None, string_bytes};
-    ghost use Rattle.log_disk.specs.FileDisk.{EyeAtPath, file_of};
+    ghost use Rattle.log_disk.specs.FileDisk.{EyeAtPath, IsAtPath, file_of};
 
     ghost Value = { EyeAtPath };
 
     ghost view = { λ e. record {
-      path = string_bytes e.file.notes.path.value;
-      file = file_of e.file.notes;
+      path = string_bytes e.file.file.notes.path.value;
+      file = file_of e.file.file.notes;
       eye = record {
         number = e.number;
         regions = e.regions.value.items;
@@ -350,7 +383,7 @@ impl Model for FileEye {
       };
     } };
 
-    ghost invariant = { λ e. (e.disk_regions * e.region_len < 2 ^ 63) × All (λ region. region < e.disk_regions) e.regions.value.items };
+    ghost invariant = { λ e. (e.disk_regions * e.region_len < 2 ^ 63) × All (λ region. region < e.disk_regions) e.regions.value.items × IsAtPath (string_bytes e.file.path) e.file };
 }
 
 impl LogEye for FileEye {
@@ -368,7 +401,10 @@ impl LogEye for FileEye {
         ensures same_path { self.new.path ≡ self.old.path }
     {
         self.taken = self.taken.saturating_add(out.len() as u64);
-        let done = self.file.read(place_of(self.region_len, region, at), out);
+        let done = self
+            .file
+            .file
+            .read(place_of(self.region_len, region, at), out);
         if done.is_err() {
             self.faults = self.faults.saturating_add(1);
             return Err(Failed);

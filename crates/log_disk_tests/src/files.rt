@@ -64,6 +64,7 @@ fn read(disk: &mut FileDisk<HostRuntime>, region: u32, at: u64) -> Result<[u8; 2
 fn look(disk: &mut FileDisk<HostRuntime>, region: u32, at: u64) -> Result<[u8; 2], DiskRefusal>
     requires there { (region < 4) × (at ≤ 6) }
     requires made { (disk.old.disk.regions ≡ 4) × (disk.old.disk.region_len ≡ 8) × (disk.old.disk.unsynced ≡ []) }
+    ensures { (disk.new.disk.regions ≡ 4) × (disk.new.disk.region_len ≡ 8) × (disk.new.disk.unsynced ≡ []) }
 {
     let mut bytes = [9u8; 2];
     let mut eye = disk.eye(&[region])?;
@@ -179,6 +180,107 @@ fn no_eye_is_opened_once_the_file_is_gone(rt: HostRuntime) -> Result<(), Fail> {
     let path = fresh_path(&rt, "gone")?;
     let seen = read_again(&rt, path.as_str(), Fate::Gone, 2, 0)?;
     assert_eq!(rt; seen, (Ok([0, 0]), Err(DiskRefusal::Failed)));
+    Ok(())
+}
+
+// Opens an eye on each of two regions, and closes both.
+fn open_two(disk: &mut FileDisk<HostRuntime>) -> Result<(), DiskRefusal>
+    requires made { (disk.old.disk.regions ≡ 4) × (disk.old.disk.region_len ≡ 8) × (disk.old.disk.unsynced ≡ []) }
+    ensures { (disk.new.disk.regions ≡ 4) × (disk.new.disk.region_len ≡ 8) × (disk.new.disk.unsynced ≡ []) }
+{
+    let first = disk.eye(&[1])?;
+    let second = disk.eye(&[2])?;
+    disk.close(first);
+    disk.close(second);
+    Ok(())
+}
+
+// How many eyes are opened at once before the path is gone.
+#[derive(Drop)]
+enum Before {
+    One,
+    Two,
+}
+
+// What an eye reads, and whether two at once are opened and what an eye reads then, once the path is gone.
+type Left = (
+    Result<[u8; 2], DiskRefusal>,
+    Result<(), DiskRefusal>,
+    Result<[u8; 2], DiskRefusal>,
+);
+
+fn seen_at_gone_path(rt: &HostRuntime, path: &str, before: Before) -> Result<Left, Fail> {
+    let mut disk = FileDisk::make(rt, rt.alloc(), path, 4, 8)?;
+    match before {
+        Before::One => drop(look(&mut disk, 1, 0)?),
+        Before::Two => open_two(&mut disk)?,
+    }
+    meet(rt, path, Fate::Gone)?;
+    let by_one = look(&mut disk, 2, 6);
+    let by_two = open_two(&mut disk);
+    Ok((by_one, by_two, look(&mut disk, 3, 6)))
+}
+
+#[test]
+fn an_eye_has_the_file_of_one_that_came_back(rt: HostRuntime) -> Result<(), Fail> {
+    let path = fresh_path(&rt, "kept")?;
+    write_ends(&rt, path.as_str())?;
+    // One file is kept, which serves one eye at a time. It is closed where its eye does not come back.
+    let left = seen_at_gone_path(&rt, path.as_str(), Before::One)?;
+    let refused = DiskRefusal::Failed;
+    assert_eq!(rt; left, (Ok([0, 3]), Err(refused), Err(DiskRefusal::Failed)));
+    Ok(())
+}
+
+#[test]
+fn two_eyes_at_once_have_files_of_their_own(rt: HostRuntime) -> Result<(), Fail> {
+    let path = fresh_path(&rt, "two_kept")?;
+    write_ends(&rt, path.as_str())?;
+    let left = seen_at_gone_path(&rt, path.as_str(), Before::Two)?;
+    assert_eq!(rt; left, (Ok([0, 3]), Ok(()), Ok([0, 4])));
+    Ok(())
+}
+
+// Gives an eye of another disk back, if it has the number of an open eye. Tells whether it had.
+fn close_other(
+    disk: &mut FileDisk<HostRuntime>,
+    other: &mut FileDisk<HostRuntime>,
+) -> Result<bool, DiskRefusal>
+    requires made { (disk.old.disk.regions ≡ 4) × (disk.old.disk.region_len ≡ 8) × (disk.old.disk.unsynced ≡ []) }
+    requires other_made { (other.old.disk.regions ≡ 4) × (other.old.disk.unsynced ≡ []) }
+    ensures { (disk.new.disk.regions ≡ 4) × (disk.new.disk.region_len ≡ 8) × (disk.new.disk.unsynced ≡ []) }
+{
+    let own = disk.eye(&[3])?;
+    let stranger = other.eye(&[3])?;
+    let is_alike = stranger.number() == own.number();
+    if is_alike {
+        disk.close(stranger);
+    }
+    Ok(is_alike)
+}
+
+// Whether an eye of a second disk was given back to a first one, and what an eye of the first one reads then.
+fn seen_past_other(
+    rt: &HostRuntime,
+    path: &str,
+    other_path: &str,
+) -> Result<(bool, Result<[u8; 2], DiskRefusal>), Fail> {
+    let mut disk = FileDisk::make(rt, rt.alloc(), path, 4, 8)?;
+    let mut other = FileDisk::make(rt, rt.alloc(), other_path, 4, 8)?;
+    let is_closed = close_other(&mut disk, &mut other)?;
+    Ok((is_closed, look(&mut disk, 3, 6)))
+}
+
+#[test]
+fn no_eye_has_the_file_of_another_disk(rt: HostRuntime) -> Result<(), Fail> {
+    let path = fresh_path(&rt, "own")?;
+    let other_path = fresh_path(&rt, "other")?;
+    write_ends(&rt, path.as_str())?;
+    // The other disk has zeros.
+    let seen = seen_past_other(&rt, path.as_str(), other_path.as_str())?;
+    assert_eq!(rt; seen, (true, Ok([0, 4])));
+    fs::remove_file(&rt, path.as_str())?;
+    fs::remove_file(&rt, other_path.as_str())?;
     Ok(())
 }
 

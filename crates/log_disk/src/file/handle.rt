@@ -99,6 +99,7 @@ impl Handle {
         path: &String,
     ) -> Result<Handle, Snapshot<FileNotes>>
         ensures opened { IfOk result (λ file. file.notes.path.value ≡ path.now) }
+        ensures fresh { IfOk result (λ file. file.notes.last.value ≡ record { ask = ask.Open; failed = false }) }
         ensures last { self.new.notes.last.value ≡ record { ask = ask.Open; failed = is_err result } }
         ensures locked { self.new.notes.locked ≡ self.old.notes.locked }
         ensures path { self.new.notes.path ≡ self.old.notes.path }

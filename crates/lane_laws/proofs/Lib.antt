@@ -1,1 +1,12 @@
+pub mod Causes
+pub mod Durable
+pub mod Faults
+pub mod History
+pub mod Needs
 pub mod NoHall
+pub mod Places
+pub mod Placing
+pub mod Quiet
+pub mod Rooms
+pub mod Seats
+pub mod Works

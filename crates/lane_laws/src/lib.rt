@@ -3,4 +3,4 @@
 
 mod laws;
 
-pub use laws::no_hall_law;
+pub use laws::{lanes_law, no_hall_law, placed_law, quiet_law, works_law};

@@ -1,6 +1,7 @@
 //! An open transaction on a hall.
 
 ghost use Rattle.std.specs.Prelude.{◌≡◌, IfOk};
+ghost use Rattle.fine_model.specs.Merge.{cost};
 ghost use Rattle.txn_draft.specs.Drafts.{blank};
 ghost use Rattle.txn_engine.specs.Txns.{HoldsNone, IsBlankTxn};
 
@@ -99,6 +100,13 @@ impl Txn {
         ensures { result ≡ self.now.draft.failed }
     {
         self.draft.failed()
+    }
+
+    /// What the rows of the calls that were answered take in a partition beside its header, in bytes.
+    pub fn cost(&self) -> u64
+        ensures { result ≡ cost self.now.draft.rows }
+    {
+        self.draft.cost()
     }
 
     /// The replies to the calls that were answered since the beginning, or since the last commit or abort, in their order. Where the transaction is not

@@ -1,0 +1,4 @@
+pub mod Lane
+pub mod Rest
+pub mod Resting
+pub mod Steps

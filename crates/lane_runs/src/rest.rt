@@ -56,6 +56,7 @@ fn seek_room<D: LogDisk, G: Gate, W: Wait>(
     requires full { (own : RoomPass) → get_elem? others.old at ≡ some own → MetFull (beginning_of hall.now) script.now place own }
     ensures rest { GoesOnFor hall.now script.now options.now.group at first.old first.new others.old others.new lane.old lane.new }
     ensures full { FullSoFar result (beginning_of hall.now) first.new lane.new }
+    ensures same { lane.new.lane ≡ lane.old.lane }
 {
     let who = others[at].number();
     match try_room(rt, alloc, hall, first, others, 0) {
@@ -102,6 +103,7 @@ fn try_rest<D: LogDisk, G: Gate, W: Wait>(
     ensures rest { GoesOnFor hall.now script.now options.now.group at first.old first.new others.old others.new lane.old lane.new }
     ensures full { FullSoFar result (beginning_of hall.now) first.new lane.new }
     ensures blank { IsBlankTxn txn.new }
+    ensures same { lane.new.lane ≡ lane.old.lane }
 {
     let mut tries = one_try(lane);
     let went = take_turn(
@@ -153,6 +155,7 @@ fn refuse_turn<D: LogDisk, G: Gate>(
     ensures idle { IsIdle hall.now pass.new × (pass.new.number ≡ pass.old.number) }
     ensures refuses { RefusesNext (beginning_of hall.now) script.now options.now.group pass.old pass.new lane.old lane.new }
     ensures blank { IsBlankTxn txn.new }
+    ensures same { lane.new.lane ≡ lane.old.lane }
 {
     let mut tries = one_try(lane);
     let end = run_on_full(
@@ -198,6 +201,7 @@ fn refuse_next<D: LogDisk, G: Gate>(
     ensures rest { GoesOnFor hall.now script.now options.now.group at first.now first.now others.old others.new lane.old lane.new }
     ensures full { FullSoFar true (beginning_of hall.now) first.now lane.new }
     ensures blank { IsBlankTxn txn.new }
+    ensures same { lane.new.lane ≡ lane.old.lane }
 {
     refuse_turn(
         hall,
@@ -243,6 +247,7 @@ pub fn run_rest<D: LogDisk, G: Gate, W: Wait>(
     requires region_len { region_len ≡ (beginning_of hall.now).room.region_len }
     ensures rest { RunsRest hall.now script.now options.now.group at first.old first.new others.old others.new lane.new }
     ensures blank { IsBlankTxn txn.new }
+    ensures same { lane.new.lane ≡ lane.old.lane }
 {
     let mut is_full = false;
     for _ in rt.forever() {

@@ -52,6 +52,7 @@ fn try_next<D: LogDisk, G: Gate, W: Wait>(
     ensures none_full { HasFull lane.new → ⊥ }
     ensures number { pass.new.number ≡ pass.old.number }
     ensures blank { IsBlankTxn txn.new }
+    ensures same { lane.new.lane ≡ lane.old.lane }
 {
     let mut tries = Tries {
         left: options.tries,
@@ -100,6 +101,7 @@ fn run_all<D: LogDisk, G: Gate, W: Wait>(
     ensures none_full { HasFull lane.new → ⊥ }
     ensures number { pass.new.number ≡ pass.old.number }
     ensures blank { IsBlankTxn txn.new }
+    ensures same { lane.new.lane ≡ lane.old.lane }
 {
     for _ in rt.forever() {
         if lane.ended().is_some() {
@@ -143,6 +145,7 @@ pub fn run_lane<D: LogDisk, G: Gate, W: Wait>(
     ensures none_full { HasFull lane.new → ⊥ }
     ensures number { pass.new.number ≡ pass.old.number }
     ensures blank { IsBlankTxn txn.new }
+    ensures same { lane.new.lane ≡ lane.old.lane }
 {
     signals.part_begins();
     let stop = run_all(rt, hall, script, gate, options, signals, pass, txn, lane);

@@ -33,6 +33,7 @@ pub(crate) fn take_end(lane: &mut Lane, end: TurnEnd) -> Went
     requires next { length lane.old.work.done < length lane.old.work.at }
     ensures lane { lane.new ≡ taken lane.old end }
     ensures went { result ≡ went_of end }
+    ensures same { lane.new.lane ≡ lane.old.lane }
 {
     match end {
         TurnEnd::Done { outcome } => {
@@ -75,6 +76,7 @@ pub(crate) fn take_turn<D: LogDisk, G: Gate, W: Wait>(
     ensures idle { IsIdle hall.now pass.new × (pass.new.number ≡ pass.old.number) }
     ensures blank { IsBlankTxn txn.new }
     ensures steps { StepsLane (beginning_of hall.now) script.now options.now.group at pass.old pass.new lane.old lane.new result }
+    ensures same { lane.new.lane ≡ lane.old.lane }
 {
     let scripted = script.at(at as usize);
     let end = run_turn(

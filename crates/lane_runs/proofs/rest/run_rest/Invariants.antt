@@ -1,3 +1,4 @@
+use Rattle.std.proofs.Common.{◌≡◌}
 use Rattle.lane_runs.specs.Resting.{FullSoFar, RestSoFar}
 use Rattle.hall_rooms.specs.Rooms.{beginning_of}
 use Rattle.txn_engine.specs.Txns.{IsBlankTxn}
@@ -9,4 +10,5 @@ invariant-loop g l = record {
   so_far : RestSoFar l.hall l.script l.options.group l.at l.initial.first l.first l.initial.others l.others l.lane;
   full : FullSoFar l.is_full (beginning_of l.hall) l.first l.lane;
   blank : IsBlankTxn l.txn;
+  same : l.lane.lane ≡ l.initial.lane.lane;
 }

@@ -10,4 +10,5 @@ invariant-loop g l = record {
   none_full : HasFull l.lane → ⊥;
   number : l.pass.number ≡ l.initial.pass.number;
   blank : IsBlankTxn l.txn;
+  same : l.lane.lane ≡ l.initial.lane.lane;
 }

@@ -30,4 +30,5 @@ loop-preserved g c =
       next = next_then c.args.script.now c.args.at c.loop.lane c.take_turn.new.lane c.take_turn.result c.in-Full.is t.steps.stays l.next;
       number = t.idle.1 ∙ l.number;
       blank = t.blank;
+      same = t.same ∙ l.same;
     }

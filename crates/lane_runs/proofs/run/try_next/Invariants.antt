@@ -11,4 +11,5 @@ invariant-loop g l = record {
   next : IsNextOf l.script l.lane l.at;
   number : l.pass.number ≡ l.initial.pass.number;
   blank : IsBlankTxn l.txn;
+  same : l.lane.lane ≡ l.initial.lane.lane;
 }

@@ -1,0 +1,17 @@
+mod AllDone
+mod AllPasses
+mod Beginnings
+mod Crossing
+mod EndedParts
+mod EndsRun
+mod FewParts
+mod FinishedParts
+mod Gathered
+mod JoinedThreads
+mod LanesBelow
+mod LanesOf
+mod Lent
+mod Mapped
+mod NewPasses
+mod RestedParts
+mod SealsLeft
